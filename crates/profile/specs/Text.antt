@@ -1,0 +1,9 @@
+-- The bytes of a text, so that words stand in these pages as they are printed.
+use Prim.Native.Char.{code}
+use Prim.Native.String.{String, [], _∷_}
+use mathlib.Core.List.{[] as none, _∷_ as _then_}
+use Rattle.profile.specs.Bytes.{Bytes}
+
+abbrev pub text : String → Bytes
+text [] = none
+text (c ∷ s) = code c then text s
