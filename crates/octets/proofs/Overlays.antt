@@ -1,7 +1,7 @@
 -- Laws of bytes written over a part of a buffer. Assumes nothing.
 use mathlib.Core.Path.{_≡_, refl, sym, ap, _∙_}
-use mathlib.Core.List.{List, [], _∷_, _++_, append-assoc, append-nil}
-use Prim.Native.Nat.{ℕ, _+_, _-_, _<_, _≤_}
+use mathlib.Core.List.{_++_, append-assoc, append-nil}
+use Prim.Native.Nat.{ℕ, _+_, _≤_}
 use native.Mathlib.Omega.{arith}
 use native.Mathlib.Nat.{le-antisymm, zero-add}
 use lib.ListN.{length, take, drop, replicate, drop-of-length-le, length-append, length-drop}
@@ -37,14 +37,35 @@ over-more xs ys d at n e h =
     let v : at + length (xs ++ ys) ≡ n + length ys = rw length-append (omega arith) in
     rw (t, u, v) (ap (λ (l : Bytes). l ++ drop (n + length ys) d) (append-assoc (take at d) xs ys))
 
--- a part that was lent, with a part of s copied into it, is back
-pub over-lent : (out s y : Bytes) (at from n k : ℕ) → at + n ≤ length out → from + n ≤ length s → k ≡ n → y ≡ part from (length (part at k out)) s → putMid at k out y ≡ overAt at (part from n s) out
+-- what stands before, at and behind the place
+module _ (xs d : Bytes) (at : ℕ) (h : at + length xs ≤ length d) where
+  pub over-before : take at (overAt at xs d) ≡ take at d
+  unfolding overAt
+  over-before =
+      rw (append-assoc (take at d) xs (drop (at + length xs) d))
+      (take-at (take at d) (xs ++ drop (at + length xs) d) at (length-take-le at d (omega arith)))
+
+  pub over-there : part at (length xs) (overAt at xs d) ≡ xs
+  unfolding overAt
+  over-there =
+      rw (append-assoc (take at d) xs (drop (at + length xs) d), drop-at (take at d) (xs ++ drop (at + length xs) d) at (length-take-le at d (omega arith)))
+      (take-at xs (drop (at + length xs) d) (length xs) refl)
+
+  pub over-behind : drop (at + length xs) (overAt at xs d) ≡ drop (at + length xs) d
+  unfolding overAt
+  over-behind = drop-at (take at d ++ xs) (drop (at + length xs) d) (at + length xs) (head-length xs d at (omega arith))
+
+-- a part of k bytes that was lent is back as y
+pub over-lent : (d y : Bytes) (at k : ℕ) → length y ≡ k → putMid at k d y ≡ overAt at y d
 unfolding overAt
-over-lent out s y at from n k h g e f =
-    let l : length (part at k out) ≡ n = length-part at k out (omega arith) ∙ e in
+over-lent d y at k e = rw (← e, drop-drop) (sym (append-assoc (take at d) y (drop (at + length y) d)))
+
+-- as it is when a part of s was copied into it
+pub over-copied : (d s y : Bytes) (at from n k : ℕ) → at + n ≤ length d → from + n ≤ length s → k ≡ n → y ≡ part from (length (part at k d)) s → putMid at k d y ≡ overAt at (part from n s) d
+over-copied d s y at from n k h g e f =
+    let l : length (part at k d) ≡ n = length-part at k d (omega arith) ∙ e in
     let z : y ≡ part from n s = f ∙ ap (λ (m : ℕ). part from m s) l in
-    let w : length (part from n s) ≡ n = length-part from n s g in
-    rw (z, e, drop-drop, w) (sym (append-assoc (take at out) (part from n s) (drop (at + n) out)))
+    over-lent d y at k (ap length z ∙ length-part from n s g ∙ sym e) ∙ ap (λ (x : Bytes). overAt at x d) z
 
 -- a buffer filled to its end
 pub fill-end : (s d : Bytes) (i : ℕ) → i ≤ length d → length d ≤ i → s ≡ replicate i 0 ++ drop i d → s ≡ zeros (length d)

@@ -1,3 +1,5 @@
+-- `octets::arrays::copy_from` meets its contract. The invariant: i bytes of the part, and the rest of d as it was.
+-- Assumes nothing.
 use denote.Ref.{now}
 use mathlib.Core.Path.{_≡_}
 use mathlib.Core.List.{_++_}

@@ -1,11 +1,11 @@
 -- `octets::compare::any_hash_at` meets its contract. The invariant: none of the first i hashes is the one in the slot. Assumes nothing.
 use denote.Ref.{now}
 use mathlib.Core.Path.{_≡_, sym, _∙_}
-use mathlib.Core.Bool.{true, false}
+use mathlib.Core.Bool.{false}
 use mathlib.Core.List.{[]}
 use Prim.Native.Nat.{_≤_, _-_}
 use native.Mathlib.Omega.{arith}
-use lib.ListN.{length, take}
+use lib.ListN.{take}
 use Rattle.profile.specs.Bytes.{Bytes, part, same, any}
 use Rattle.octets.proofs.Comparing.{any-more, any-found}
 use borrow.Author.Needs.{needs}

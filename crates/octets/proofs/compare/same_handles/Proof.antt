@@ -1,5 +1,5 @@
 -- `octets::compare::same_handles` meets its contract: all of b is a part of it. Assumes nothing.
-use mathlib.Core.Path.{_≡_, ap, _∙_}
+use mathlib.Core.Path.{ap, _∙_}
 use lib.ListN.{length}
 use lib.Seq.{take-all}
 use Rattle.profile.specs.Bytes.{Bytes, same}

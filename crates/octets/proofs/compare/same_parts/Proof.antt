@@ -1,10 +1,11 @@
+-- `octets::compare::same_parts` meets its contract. The invariant: the first i bytes agree. Assumes nothing.
 use denote.Ref.{now}
 use mathlib.Core.Path.{_≡_, sym}
 use Prim.Native.Nat.{ℕ, _+_, _≤_, _<_, _-_}
 use native.Mathlib.Omega.{arith}
 use borrow.Author.Needs.{needs}
 use borrow.Author.Count.{below-more}
-use lib.ListN.{length, getD}
+use lib.ListN.{getD}
 use Rattle.octets.proofs.Comparing.{parts-same, parts-differ}
 use Rattle.octets.proofs.compare.same_parts.Statement.{statement}
 use Rattle.octets.proofs.compare.same_parts.Tie as tie

@@ -1,11 +1,11 @@
-use Rattle.octets.proofs.Overlays.{fill-end}
-use borrow.Author.Fill.{fill-more}
-use Prim.Native.Nat.{ℕ}
-use lib.ListN.{length, getD, take, drop, set, replicate, length-set}
-use native.Mathlib.Omega.{arith}
+-- `octets::put::clear` meets its contract. The invariant: i zeros, and the rest of d as it was. Assumes nothing.
+use Prim.Native.Nat.{ℕ, _≤_, _<_, _-_}
+use mathlib.Core.Path.{_≡_, refl, ap, _∙_}
 use mathlib.Core.List.{List, _++_}
-use mathlib.Core.Path.{_≡_, refl, sym, ap, _∙_}
-use Prim.Native.Nat.{_≤_, _<_, _-_, _+_, _*_, _/_}
+use native.Mathlib.Omega.{arith}
+use borrow.Author.Fill.{fill-more}
+use lib.ListN.{length, drop, set, replicate, length-set}
+use Rattle.octets.proofs.Overlays.{fill-end}
 use Rattle.octets.proofs.put.clear.Statement.{statement}
 use Rattle.octets.proofs.put.clear.Tie as tie
 

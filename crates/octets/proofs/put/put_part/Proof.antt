@@ -2,7 +2,7 @@
 use denote.Ref.{now}
 use Prim.Native.Nat.{_+_, _-_}
 use native.Mathlib.Omega.{arith}
-use Rattle.octets.proofs.Overlays.{over-lent}
+use Rattle.octets.proofs.Overlays.{over-copied}
 use borrow.Author.Needs.{needs}
 use borrow.Author.Needs.{needs}
 use Rattle.octets.proofs.put.put_part.Statement.{statement}
@@ -32,7 +32,7 @@ returns c =
     let start = c .before .before .before .before .before .before in
     let a = start .args in
     let y = c .before .before .copy-from in
-    over-lent (now (a .out)) (now (a .s)) (y .last .0) (a .at) (a .from) (a .n) (a .at + a .n - a .at) (start .pre .0) (start .pre .1) (omega arith) (y .ensures)
+    over-copied (now (a .out)) (now (a .s)) (y .last .0) (a .at) (a .from) (a .n) (a .at + a .n - a .at) (start .pre .0) (start .pre .1) (omega arith) (y .ensures)
 
 pub put-part-spec : {M : Type 1} → statement M
 put-part-spec =
