@@ -2,7 +2,7 @@
 use Prim.Native.Nat.{ℕ, suc, _%_, _≤_}
 use mathlib.Core.Path.{_≡_, refl, sym, ap, _∙_}
 use mathlib.Core.List.{List, [], _∷_, _++_, map}
-use mathlib.Core.Bool.{Bool, true, false, _&&_}
+use mathlib.Core.Bool.{Bool, true, false}
 use native.Mathlib.Omega.{arith}
 use lib.Dec.{eqb}
 use lib.ListN.{length, length-append}
@@ -12,10 +12,10 @@ use Rattle.profile.specs.Table.{slotSize, slotCount, slotsOf, wholeSlots
 use Rattle.profile.specs.Agent.{times, Call, agent}
 use Rattle.profile.specs.History.{Opened, open-setup, Owned, forUse, lent, Ledger}
 use Rattle.profile.specs.Run.{underSlot, underSetup, underRight, underSlots, underLedger, Agrees}
-use Rattle.profile.proofs.Logic.{and-parts, from-1-to-says, split, same-refl}
+use Rattle.profile.proofs.Logic.{and-parts, from-1-to-says}
 use Rattle.profile.proofs.Strings.{Bytes256}
-use Rattle.profile.proofs.Lookup.{times-distinct, no-length}
-use Rattle.profile.proofs.Tables.{table-slots, whole-table, well-table}
+use Rattle.profile.proofs.Lookup.{times-distinct}
+use Rattle.profile.proofs.Tables.{table-slots}
 use Rattle.profile.proofs.WellFormed.{table-fits, table-distinct, count-slots, few-slots}
 use Rattle.profile.proofs.Sound.{Sound, sound-call, sound-well}
 

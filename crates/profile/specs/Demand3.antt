@@ -11,7 +11,7 @@ use Rattle.profile.specs.Table.{slotsOf, wholeSlots, wellTable}
 use Rattle.profile.specs.Request.{Request, setup, install, retrieve, query, enable, remove, cancel, list, info, Read, asks, refused, noFrame, readRequest}
 use Rattle.profile.specs.Agent.{Call, Outcome, agent}
 use Rattle.profile.specs.History.{Owned, forUse, lent, Ledger, rightNumber, Exchange, history}
-use Rattle.profile.specs.Run.{exchangeOf, exchanges, tableThen, tableAfterAll, ledgerThen, underSlots, Agrees}
+use Rattle.profile.specs.Run.{exchangeOf, exchanges, tableAfterAll, ledgerThen, underSlots, Agrees}
 use Rattle.profile.specs.Hidden.{hidden}
 
 -- ---- rights and records, one to one
