@@ -20,6 +20,7 @@ pub data Stands : Owned → Bytes → Entry → Type 0 where
   for-use : {h : Bytes} {r : Right} → Stands (forUse h r) h (enabled r)
   is-lent : {h : Bytes} {r : Right} → Stands (lent h r) h (disabled r)
 
+-- an enabled or disabled record
 abbrev pub IsRight : Entry → Type 0
 IsRight (reserved n) = ⊥
 IsRight (enabled r) = Unit {0}
@@ -81,6 +82,7 @@ isLending (cancel h) = false
 isLending (list limit q) = false
 isLending (info h) = false
 
+-- a request of kind 3 or 4
 abbrev pub asksForKey : Read → Bool
 asksForKey (asks q) = isLending q
 asksForKey (refused r) = false
