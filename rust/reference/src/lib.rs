@@ -5,11 +5,18 @@
 
 mod bytes;
 mod content;
+mod frame;
+mod kind;
 pub mod number;
+mod request;
 pub mod slot;
+mod status;
 pub mod table;
 
+pub use kind::Kind;
+pub use request::{read_request, write_request, Fields, ReadRequest, Request};
 pub use slot::{Place, SLOT_BYTES};
+pub use status::Status;
 pub use table::{well_formed, MAX_SLOTS};
 
 /// A handle: "Any ten bytes may be a handle, zeros included".
