@@ -8,12 +8,14 @@ mod content;
 mod frame;
 mod kind;
 pub mod number;
+mod reply;
 mod request;
 pub mod slot;
 mod status;
 pub mod table;
 
 pub use kind::Kind;
+pub use reply::{read_reply, Reply, ReplyFields};
 pub use request::{read_request, write_request, Fields, ReadRequest, Request};
 pub use slot::{Place, SLOT_BYTES};
 pub use status::Status;
