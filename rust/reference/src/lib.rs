@@ -3,6 +3,7 @@
 #![forbid(unsafe_code)]
 #![warn(missing_docs)]
 
+mod agent;
 mod bytes;
 mod content;
 mod frame;
@@ -14,6 +15,7 @@ pub mod slot;
 mod status;
 pub mod table;
 
+pub use agent::{call, REPLY_ROOM};
 pub use kind::Kind;
 pub use reply::{read_reply, Reply, ReplyFields};
 pub use request::{read_request, write_request, Fields, ReadRequest, Request};
