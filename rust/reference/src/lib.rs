@@ -8,6 +8,7 @@ mod bytes;
 mod content;
 mod frame;
 mod kind;
+mod listing;
 pub mod number;
 mod reply;
 mod request;
@@ -17,6 +18,7 @@ pub mod table;
 
 pub use agent::{call, REPLY_ROOM};
 pub use kind::Kind;
+pub use listing::listing;
 pub use reply::{read_reply, Reply, ReplyFields};
 pub use request::{read_request, write_request, Fields, ReadRequest, Request};
 pub use slot::{Place, SLOT_BYTES};
