@@ -5,7 +5,7 @@ ghost use lib.ListN.{length};
 ghost use Rattle.profile.specs.Bytes.{part, allZero};
 
 // Every byte is read, with no exit between, so that the loop becomes vector code.
-pub fn zero_block(s: &[u8]) -> bool
+fn zero_block(s: &[u8]) -> bool
     ensures { λ r. ⌜ r ≡ allZero (now (s .entry)) ⌝ }
 {
     let mut acc: u8 = 0;
