@@ -1,0 +1,31 @@
+-- A copy that goes byte by byte, and hashes read one after another. Assumes nothing.
+use mathlib.Core.Path.{_≡_, refl, sym, ap, _∙_}
+use mathlib.Core.List.{List, [], _∷_, _++_, append-nil}
+use Prim.Native.Nat.{ℕ, zero, suc, _+_, _*_, _<_}
+use native.Mathlib.Nat.{not-suc-le-zero, le-of-suc-le-suc}
+use native.Mathlib.Numerals.{add-one}
+use native.Mathlib.Omega.{arith}
+use lib.ListN.{length, take, drop, set, getD, length-drop}
+use lib.Seq.{getD-drop, drop-length, take-suc-set}
+use Rattle.profile.specs.Bytes.{Bytes, part, pieces}
+use Rattle.profile.proofs.Loops.{pieces-snoc}
+use Rattle.octets.proofs.Parts.{part-drop}
+
+copied-suc : (d s : Bytes) (i : ℕ) → i < length s → i < length d → set (take i s ++ drop i d) i (getD s i 0) ≡ take (suc i) s ++ drop (suc i) d
+copied-suc d [] i p q = absurd (not-suc-le-zero p)
+copied-suc [] (x ∷ s) i p q = absurd (not-suc-le-zero q)
+copied-suc (y ∷ d) (x ∷ s) zero p q = refl
+copied-suc (y ∷ d) (x ∷ s) (suc i) p q = ap (λ (l : Bytes). x ∷ l) (copied-suc d s i (le-of-suc-le-suc p) (le-of-suc-le-suc q))
+
+-- a turn of a copy of s's bytes from a place on, and its end
+pub copy-more : (d₀ s d : Bytes) (at i : ℕ) → d ≡ part at i s ++ drop i d₀ → i < length d₀ → at + i < length s → set d i (getD s (at + i) 0) ≡ part at (i + 1) s ++ drop (i + 1) d₀
+copy-more d₀ s d at i e p q =
+    rw (add-one, e, ← getD-drop at s i 0) (copied-suc d₀ (drop at s) i (simp length-drop (omega arith)) p)
+
+pub copy-all : (d₀ s d : Bytes) (at i : ℕ) → d ≡ part at i s ++ drop i d₀ → i ≡ length d₀ → d ≡ part at (length d₀) s
+copy-all d₀ s d at i e p = e ∙ rw (p, drop-length) (append-nil (part at (length d₀) s))
+
+-- a turn of reading pieces of k bytes from a place on
+pub pieces-more : (k : ℕ) (q : List Bytes) (i at : ℕ) (s : Bytes) → i < length q → take i q ≡ pieces k i (drop at s) → take (i + 1) (set q i (part (at + k * i) k s)) ≡ pieces k (i + 1) (drop at s)
+pieces-more k q i at s h e =
+    rw (add-one, take-suc-set, e, ← part-drop at (k * i) k s) (sym (pieces-snoc k i (drop at s)))

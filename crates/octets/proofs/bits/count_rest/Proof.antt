@@ -1,0 +1,10 @@
+-- `octets::bits::count_rest` meets its contract: a mask is a remainder. Assumes nothing.
+use lib.Bits.{and-mask}
+use Rattle.octets.proofs.bits.count_rest.Statement.{statement}
+use Rattle.octets.proofs.bits.count_rest.Tie as tie
+
+returns : tie.Need-returns
+returns c = and-mask _ 4
+
+pub count-rest-spec : {M : Type 1} → statement M
+count-rest-spec = tie.close (tie.spec returns)

@@ -1,0 +1,98 @@
+// Bytes of packed bit fields, most significant bit first, taken apart and built by shifts and masks.
+ghost use mathlib.Core.Path.{_≡_};
+ghost use Prim.Native.Nat.{_+_, _*_, _/_, _%_, _<_};
+ghost use Rattle.profile.specs.Bytes.{if_then_else_};
+
+// Slot byte 0, "place 2 bits, hash count 4 bits, 2 spare bits": the place's number.
+pub fn slot_place(b: u8) -> u8
+    ensures { λ r. ⌜ r ≡ b / 64 ⌝ }
+{
+    b >> 6
+}
+
+// The hash count of slot byte 0. Up to 15 can stand there; which are allowed is the slot's rule.
+pub fn slot_hashes(b: u8) -> u8
+    ensures { λ r. ⌜ r ≡ b / 4 % 16 ⌝ }
+{
+    (b >> 2) & 15
+}
+
+// The two spare bits of slot byte 0, which are 0 in a well-formed slot.
+pub fn slot_spare(b: u8) -> u8
+    ensures { λ r. ⌜ r ≡ b % 4 ⌝ }
+{
+    b & 3
+}
+
+// Slot byte 0 of a place and a hash count, with its spare bits 0.
+pub fn slot_head(place: u8, hashes: u8) -> u8
+    requires { ⌜ (place < 4) × (hashes < 16) ⌝ }
+    ensures { λ r. ⌜ r ≡ 64 * place + 4 * hashes ⌝ }
+{
+    (place << 6) | (hashes << 2)
+}
+
+// Frame byte 0, "version 3 bits (1), kind 5 bits": the version.
+pub fn frame_version(b: u8) -> u8
+    ensures { λ r. ⌜ r ≡ b / 32 ⌝ }
+{
+    b >> 5
+}
+
+// The kind of frame byte 0.
+pub fn frame_kind(b: u8) -> u8
+    ensures { λ r. ⌜ r ≡ b % 32 ⌝ }
+{
+    b & 31
+}
+
+// Frame byte 0 of a kind, at version 1.
+pub fn frame_head(kind: u8) -> u8
+    requires { ⌜ kind < 32 ⌝ }
+    ensures { λ r. ⌜ r ≡ 32 + kind ⌝ }
+{
+    (1 << 5) | kind
+}
+
+// One bit and seven zero bits, as the verdict of a request and the "more" of a list stand: the bit.
+pub fn flag_of(b: u8) -> u8
+    ensures { λ r. ⌜ r ≡ b / 128 ⌝ }
+{
+    b >> 7
+}
+
+// The seven bits below a flag, which are to be 0.
+pub fn flag_rest(b: u8) -> u8
+    ensures { λ r. ⌜ r ≡ b % 128 ⌝ }
+{
+    b & 127
+}
+
+// A flag with seven zero bits below it.
+pub fn flag_byte(on: bool) -> u8
+    ensures { λ r. ⌜ r ≡ (if on then 128 else 0) ⌝ }
+{
+    if on { 1 << 7 } else { 0 }
+}
+
+// "hash count 4 bits, 4 zero bits", as kinds 2 and 3 have it: the hash count.
+pub fn count_of(b: u8) -> u8
+    ensures { λ r. ⌜ r ≡ b / 16 ⌝ }
+{
+    b >> 4
+}
+
+// The four bits below a hash count, which are to be 0.
+pub fn count_rest(b: u8) -> u8
+    ensures { λ r. ⌜ r ≡ b % 16 ⌝ }
+{
+    b & 15
+}
+
+// A hash count with four zero bits below it.
+pub fn count_byte(n: u8) -> u8
+    requires { ⌜ n < 16 ⌝ }
+    ensures { λ r. ⌜ r ≡ 16 * n ⌝ }
+{
+    n << 4
+}

@@ -1,0 +1,66 @@
+// Handles and hashes compared where they stand, without a copy.
+ghost use mathlib.Core.Path.{_≡_};
+ghost use Prim.Native.Nat.{_+_, _≤_};
+ghost use lib.ListN.{length, take};
+ghost use Rattle.profile.specs.Bytes.{part, same, any};
+
+// The one comparing loop, which stops at the first byte that differs: two slots' handles are told apart by it in place.
+pub fn same_parts(s: &[u8], a: usize, t: &[u8], b: usize, n: usize) -> bool
+    requires { ⌜ (a + n ≤ length (now s)) × (b + n ≤ length (now t)) ⌝ }
+    ensures { λ r. ⌜ r ≡ same (part a n (now (s .entry))) (part b n (now (t .entry))) ⌝ }
+{
+    let mut i = 0;
+    while i < n {
+        if s[a + i] != t[b + i] {
+            return false;
+        }
+        i += 1;
+    }
+    true
+}
+
+// Whether the whole of `a` stands in `s` at a place.
+pub fn same_from(a: &[u8], s: &[u8], at: usize) -> bool
+    requires { ⌜ at + length (now a) ≤ length (now s) ⌝ }
+    ensures { λ r. ⌜ r ≡ same (now (a .entry)) (part at (length (now (a .entry))) (now (s .entry))) ⌝ }
+{
+    same_parts(a, 0, s, at, a.len())
+}
+
+// Whether a request's handle is the one that stands in a slot.
+pub fn same_handle_at(h: [u8; 10], s: &[u8], at: usize) -> bool
+    requires { ⌜ at + 10 ≤ length (now s) ⌝ }
+    ensures { λ r. ⌜ r ≡ same h (part at 10 (now (s .entry))) ⌝ }
+{
+    same_from(&h, s, at)
+}
+
+// Whether a query's hash is the one that stands in a slot.
+pub fn same_hash_at(h: [u8; 20], s: &[u8], at: usize) -> bool
+    requires { ⌜ at + 20 ≤ length (now s) ⌝ }
+    ensures { λ r. ⌜ r ≡ same h (part at 20 (now (s .entry))) ⌝ }
+{
+    same_from(&h, s, at)
+}
+
+// Whether two handles are the same.
+pub fn same_handles(a: [u8; 10], b: [u8; 10]) -> bool
+    ensures { λ r. ⌜ r ≡ same a b ⌝ }
+{
+    same_from(&a, &b, 0)
+}
+
+// Kind 8, "that have some hash of the request": whether one of a query's n hashes is the one that stands in a slot.
+pub fn any_hash_at(q: [[u8; 20]; 8], n: usize, s: &[u8], at: usize) -> bool
+    requires { ⌜ (n ≤ 8) × (at + 20 ≤ length (now s)) ⌝ }
+    ensures { λ r. ⌜ r ≡ any (λ x. same x (part at 20 (now (s .entry)))) (take n q) ⌝ }
+{
+    let mut i = 0;
+    while i < n {
+        if same_hash_at(q[i], s, at) {
+            return true;
+        }
+        i += 1;
+    }
+    false
+}

@@ -1,0 +1,41 @@
+// Whether bytes are all 0, as the unused bytes of a well-formed slot are.
+ghost use mathlib.Core.Path.{_≡_};
+ghost use Prim.Native.Nat.{_-_, _≤_};
+ghost use lib.ListN.{length};
+ghost use Rattle.profile.specs.Bytes.{part, allZero};
+
+// Every byte is read, with no exit between, so that the loop becomes vector code.
+pub fn zero_block(s: &[u8]) -> bool
+    ensures { λ r. ⌜ r ≡ allZero (now (s .entry)) ⌝ }
+{
+    let mut acc: u8 = 0;
+    let mut i = 0;
+    while i < s.len() {
+        acc = acc | s[i];
+        i += 1;
+    }
+    acc == 0
+}
+
+// "Empty: all 4,288 bytes are 0." Blocks of 256 bytes, and an exit behind each that has a byte other than 0.
+pub fn all_zero(s: &[u8]) -> bool
+    ensures { λ r. ⌜ r ≡ allZero (now (s .entry)) ⌝ }
+{
+    let mut i = 0;
+    while 256 <= s.len() - i {
+        let e = i + 256;
+        if !zero_block(&s[i..e]) {
+            return false;
+        }
+        i = e;
+    }
+    zero_block(&s[i..])
+}
+
+// "hash bytes beyond the count and payload bytes beyond the length are 0": a part of a slot.
+pub fn zero_part(s: &[u8], from: usize, to: usize) -> bool
+    requires { ⌜ (from ≤ to) × (to ≤ length (now s)) ⌝ }
+    ensures { λ r. ⌜ r ≡ allZero (part from (to - from) (now (s .entry))) ⌝ }
+{
+    all_zero(&s[from..to])
+}
