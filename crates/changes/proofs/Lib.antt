@@ -1,0 +1,4 @@
+pub mod OverFields
+pub mod Images
+pub mod SlotBytes
+pub mod Lent
