@@ -19,9 +19,9 @@ pub fn clear_slot(t: &mut [u8], i: usize)
     requires { ⌜ Has (now t) i ⌝ }
     ensures { λ _. ⌜ now (t .exit) ≡ tableOf (set (slotsOf (now (t .entry))) i empty) ⌝ }
 {
-    let a = SLOT * i;
-    let e = a + SLOT;
-    octets::put::clear(&mut t[a..e]);
+    let from = SLOT * i;
+    let to = from + SLOT;
+    octets::put::clear(&mut t[from..to]);
 }
 
 // Kind 1: an empty slot "becomes reserved", with "the room asked for".

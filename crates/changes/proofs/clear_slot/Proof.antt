@@ -10,11 +10,11 @@ use borrow.Author.Needs.{needs}
 use Rattle.changes.proofs.clear_slot.Statement.{statement}
 use Rattle.changes.proofs.clear_slot.Tie as tie
 
-mul-a : tie.Need-mul-a
-mul-a c = search needs
+mul-from : tie.Need-mul-from
+mul-from c = search needs
 
-add-e : tie.Need-add-e
-add-e c = search needs
+add-to : tie.Need-add-to
+add-to c = search needs
 
 sub-clear : tie.Need-sub-clear
 sub-clear c = search needs
@@ -44,8 +44,8 @@ pub clear-slot-spec : {M : Type 1} → statement M
 clear-slot-spec =
     tie.close
     (tie.spec
-    mul-a
-    add-e
+    mul-from
+    add-to
     sub-clear
     part-clear-start
     part-clear-end
