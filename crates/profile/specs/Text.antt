@@ -4,6 +4,7 @@ use Prim.Native.String.{String, [], _∷_}
 use mathlib.Core.List.{[] as none, _∷_ as _then_}
 use Rattle.profile.specs.Bytes.{Bytes}
 
+-- each character is one byte
 abbrev pub text : String → Bytes
 text [] = none
 text (c ∷ s) = code c then text s

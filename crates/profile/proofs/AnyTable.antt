@@ -1,0 +1,103 @@
+-- Every call leaves a well-formed table well formed: not from a blank card alone, but from any.
+use Prim.Native.Nat.{ℕ, suc, _%_, _≤_}
+use mathlib.Core.Path.{_≡_, refl, sym, ap, _∙_}
+use mathlib.Core.List.{List, [], _∷_, _++_, map}
+use mathlib.Core.Bool.{Bool, true, false}
+use native.Mathlib.Omega.{arith}
+use lib.Dec.{eqb}
+use lib.ListN.{length, length-append}
+use Rattle.profile.specs.Bytes.{Bytes, if_then_else_, same, from1to, joined}
+use Rattle.profile.specs.Slot.{Entry, reserved, enabled, disabled, Slot, empty, taken, distinct}
+use Rattle.profile.specs.Table.{slotSize, slotCount, slotsOf, wholeSlots, wellTable}
+use Rattle.profile.specs.Agent.{times, Call, agent}
+use Rattle.profile.specs.History.{Opened, open-setup, Owned, forUse, lent, Ledger}
+use Rattle.profile.specs.Run.{underSlot, underSetup, underRight, underSlots, underLedger, Agrees}
+use Rattle.profile.proofs.Logic.{and-parts, from-1-to-says}
+use Rattle.profile.proofs.Strings.{Bytes256}
+use Rattle.profile.proofs.Lookup.{times-distinct}
+use Rattle.profile.proofs.Tables.{table-slots}
+use Rattle.profile.proofs.WellFormed.{table-fits, table-distinct, count-slots, few-slots}
+use Rattle.profile.proofs.Sound.{Sound, sound-call, sound-well}
+
+-- ---- a ledger for slots whose history is not known: each reservation an open setup, each record a right
+abbrev setupIn : Slot → List Opened
+setupIn empty = []
+setupIn (taken h (reserved n)) = open-setup h n ∷ []
+setupIn (taken h (enabled r)) = []
+setupIn (taken h (disabled r)) = []
+
+abbrev rightIn : Slot → List Owned
+rightIn empty = []
+rightIn (taken h (reserved n)) = []
+rightIn (taken h (enabled r)) = forUse h r ∷ []
+rightIn (taken h (disabled r)) = lent h r ∷ []
+
+abbrev pub ledgerOf : List Slot → Ledger
+ledgerOf t = record { setups = joined (map setupIn t); rights = joined (map rightIn t) }
+
+-- where the handles are distinct, at most one record stands under each
+one-more : (b : Bool) (e : Entry) (xs : List Entry) (n : ℕ) → length xs ≡ n → length ((if b then e ∷ [] else []) ++ xs) ≡ (if b then suc n else n)
+one-more true e xs n p = ap suc p
+one-more false e xs n p = p
+
+count-under : (h : Bytes) (t : List Slot) → length (underSlots h t) ≡ times h t
+count-under h [] = refl
+count-under h (empty ∷ t) = count-under h t
+count-under h (taken k e ∷ t) = one-more (same h k) e (underSlots h t) (times h t) (count-under h t)
+
+-- a right in front of the setups behind it: nothing stands there under its handle
+past-setups : (a b c : List Entry) → length (a ++ (b ++ c)) ≤ 1 → a ++ (b ++ c) ≡ b ++ (a ++ c)
+past-setups [] b c o = refl
+past-setups (x ∷ a) [] c o = refl
+past-setups (x ∷ a) (y ∷ b) c o = absurd (omega (arith, o, length-append a (y ∷ (b ++ c))))
+
+fewer : (h : Bytes) (s : Slot) (t : List Slot) → length (underSlots h (s ∷ t)) ≤ 1 → length (underSlots h t) ≤ 1
+fewer h s t o = omega (arith, o, length-append (underSlot h s) (underSlots h t))
+
+right-first : (h : Bytes) (s : Slot) (t : List Slot) → length (underSlots h (s ∷ t)) ≤ 1 → underSlots h t ≡ underLedger h (ledgerOf t)
+    → underSlots h (s ∷ t) ≡ joined (map (underSetup h) (ledgerOf t .setups)) ++ (underSlot h s ++ joined (map (underRight h) (ledgerOf t .rights)))
+right-first h s t o e =
+    ap (λ (x : List Entry). underSlot h s ++ x) e
+    ∙ past-setups (underSlot h s) (joined (map (underSetup h) (ledgerOf t .setups))) (joined (map (underRight h) (ledgerOf t .rights))) (rw e at o)
+
+under-ledger : (h : Bytes) (t : List Slot) → length (underSlots h t) ≤ 1 → underSlots h t ≡ underLedger h (ledgerOf t)
+under-ledger h [] o = refl
+under-ledger h (empty ∷ t) o = under-ledger h t o
+under-ledger h (taken k (reserved n) ∷ t) o =
+    ap (λ (x : List Entry). underSlot h (taken k (reserved n)) ++ x) (under-ledger h t (fewer h (taken k (reserved n)) t o))
+    ∙ setup-first (same h k)
+  where
+    setup-first : (b : Bool) → (if b then reserved n ∷ [] else []) ++ underLedger h (ledgerOf t)
+        ≡ ((if b then reserved n ∷ [] else []) ++ joined (map (underSetup h) (ledgerOf t .setups))) ++ joined (map (underRight h) (ledgerOf t .rights))
+    setup-first true = refl
+    setup-first false = refl
+under-ledger h (taken k (enabled r) ∷ t) o = right-first h (taken k (enabled r)) t o (under-ledger h t (fewer h (taken k (enabled r)) t o))
+under-ledger h (taken k (disabled r) ∷ t) o = right-first h (taken k (disabled r)) t o (under-ledger h t (fewer h (taken k (disabled r)) t o))
+
+pub table-agrees : (t : List Slot) → distinct t ≡ true → Agrees (ledgerOf t) t
+table-agrees t d =
+    let once : (h : Bytes) → length (underSlots h t) ≤ 1 = λ h. rw (count-under h t) (times-distinct h t d) in
+    record { each = λ h. under-ledger h t (once h); once = once }
+
+-- ---- on the bytes
+module _ (table : Bytes) (bytes : Bytes256 table) (whole : wholeSlots table ≡ true) (well : wellTable table ≡ true) where
+  some-slots : 1 ≤ length (slotsOf table)
+  unfolding wholeSlots
+  some-slots =
+      rw (count-slots table whole well)
+      (from-1-to-says 15 (slotCount table) (and-parts (eqb (length table % slotSize) 0) (from1to 15 (slotCount table)) whole .1) .0)
+
+  pub sound-table : Sound (ledgerOf (slotsOf table)) table
+  sound-table =
+      record {
+        slots = slotsOf table;
+        packed = sym (table-slots table bytes whole well);
+        fits = table-fits table whole well;
+        some-slots = some-slots;
+        few-slots = few-slots table whole well;
+        agrees = table-agrees (slotsOf table) (table-distinct table whole well);
+      }
+
+  -- A table after every answer is whole and well formed.
+  pub stays-well : (c : Call) → (wholeSlots (agent table c .table) ≡ true) × (wellTable (agent table c .table) ≡ true)
+  stays-well c = sound-well _ (agent table c .table) (sound-call (ledgerOf (slotsOf table)) table sound-table c)

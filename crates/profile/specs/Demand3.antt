@@ -1,0 +1,123 @@
+-- Demand 3, whole: what holds after every sequence of calls on an all-zero table.
+use Prim.Native.Nat.{ℕ}
+use mathlib.Core.Path.{_≡_}
+use mathlib.Core.List.{List, [], _∷_}
+use mathlib.Core.Option.{some}
+use mathlib.Core.Bool.{Bool, true, false, _&&_}
+use lib.Dec.{eqb}
+use Rattle.profile.specs.Bytes.{Bytes, same, part, any}
+use Rattle.profile.specs.Slot.{Right, Entry, reserved, enabled, disabled, Slot}
+use Rattle.profile.specs.Table.{slotsOf, wholeSlots, wellTable}
+use Rattle.profile.specs.Request.{Request, setup, install, retrieve, query, enable, remove, cancel, list, info, Read, asks, refused, noFrame, readRequest}
+use Rattle.profile.specs.Agent.{Call, Outcome, agent}
+use Rattle.profile.specs.History.{Owned, forUse, lent, Ledger, rightNumber, Exchange, history}
+use Rattle.profile.specs.Run.{exchangeOf, exchanges, tableAfterAll, ledgerThen, underSlots, Agrees}
+use Rattle.profile.specs.Hidden.{hidden}
+
+-- ---- rights and records, one to one
+-- the right o stands under h, and e is its record
+pub data Stands : Owned → Bytes → Entry → Type 0 where
+  for-use : {h : Bytes} {r : Right} → Stands (forUse h r) h (enabled r)
+  is-lent : {h : Bytes} {r : Right} → Stands (lent h r) h (disabled r)
+
+-- an enabled or disabled record
+abbrev pub IsRight : Entry → Type 0
+IsRight (reserved n) = ⊥
+IsRight (enabled r) = Unit {0}
+IsRight (disabled r) = Unit {0}
+
+-- each right for use or lent has one record, each enabled or disabled record is that of a right, and no two rights share one;
+-- a right is known by its number, so "two installations with equal bytes are two rights"
+pub record Mirrors (l : Ledger) (t : List Slot) : Type 0 where
+  pub recorded : (i : ℕ) (o : Owned) (h : Bytes) (e : Entry) → rightNumber i l ≡ some o → Stands o h e → underSlots h t ≡ e ∷ []
+  pub righted : (h : Bytes) (e : Entry) → IsRight e → underSlots h t ≡ e ∷ [] → (i : ℕ) × (o : Owned) × (rightNumber i l ≡ some o) × Stands o h e
+  pub single : (i j : ℕ) (o u : Owned) (h : Bytes) (e f : Entry) → rightNumber i l ≡ some o → Stands o h e → rightNumber j l ≡ some u → Stands u h f → i ≡ j
+
+-- ---- keys that go out, and returns
+-- kinds 3 and 4: the request, the handle and the new handle
+pub data Lends : Request → Bytes → Bytes → Type 0 where
+  by-retrieval : {h k : Bytes} → Lends (retrieve h k) h k
+  by-query : {h k : Bytes} → Lends (query h k) h k
+
+-- on this table the call asks for the key under h with the new handle k, and has it
+pub record KeyOut (table : Bytes) (c : Call) (h k : Bytes) : Type 0 where
+  pub asked : Request
+  pub lends : Lends asked h k
+  pub success : exchangeOf table c ≡ record { request = asked; status = 0 } ∷ []
+
+-- "a key goes out only for a right then for use": a right is for use under h by the ledger l, and its key is what the reply holds
+-- after its head; what was for use under h is lent under k by the ledger l′
+pub record LentOut (l l′ : Ledger) (h k reply : Bytes) : Type 0 where
+  pub number : ℕ
+  pub right : Right
+  pub for-use : rightNumber number l ≡ some (forUse h right)
+  pub sent : part 4 16 reply ≡ right .key
+  pub then-lent : (i : ℕ) (r : Right) → rightNumber i l ≡ some (forUse h r) → rightNumber i l′ ≡ some (lent k r)
+
+-- a return under the handle k
+abbrev pub isReturn : Bytes → Request → Bool
+isReturn k (setup h n) = false
+isReturn k (install h r) = false
+isReturn k (retrieve h j) = false
+isReturn k (query h j) = false
+isReturn k (enable h c) = same k h
+isReturn k (remove h) = false
+isReturn k (cancel h) = false
+isReturn k (list limit q) = false
+isReturn k (info h) = false
+
+-- one of the exchanges is a return under k that succeeded
+abbrev pub returned : Bytes → List Exchange → Bool
+returned k xs = any (λ x. eqb (x .status) 0 && isReturn k (x .request)) xs
+
+-- ---- replies that give no key
+abbrev pub isLending : Request → Bool
+isLending (setup h n) = false
+isLending (install h r) = false
+isLending (retrieve h k) = true
+isLending (query h k) = true
+isLending (enable h c) = false
+isLending (remove h) = false
+isLending (cancel h) = false
+isLending (list limit q) = false
+isLending (info h) = false
+
+-- a request of kind 3 or 4
+abbrev pub asksForKey : Read → Bool
+asksForKey (asks q) = isLending q
+asksForKey (refused r) = false
+asksForKey noFrame = false
+
+-- well-formed tables whose slots differ in keys alone
+pub record AlikeButKeys (table other : Bytes) : Type 0 where
+  pub whole : wholeSlots table ≡ true
+  pub well : wellTable table ≡ true
+  pub other-whole : wholeSlots other ≡ true
+  pub other-well : wellTable other ≡ true
+  pub alike : hidden (slotsOf table) ≡ hidden (slotsOf other)
+
+-- the number and the reply are those of the other
+pub record SameReply (o p : Outcome) : Type 0 where
+  pub number : o .number ≡ p .number
+  pub reply : o .reply ≡ p .reply
+
+-- ---- the demand, after the calls cs on an all-zero table of n slots
+pub record Demand3 (n : ℕ) (cs : List Call) : Type 0 where
+  -- the table is whole and well formed
+  pub whole : wholeSlots (tableAfterAll n cs) ≡ true
+  pub well : wellTable (tableAfterAll n cs) ≡ true
+  -- "the requests and statuses alone tell which rights are for use, lent or gone and under which handle; the records agree exactly"
+  pub agrees : Agrees (ledgerThen n cs) (slotsOf (tableAfterAll n cs))
+  pub mirrors : Mirrors (ledgerThen n cs) (slotsOf (tableAfterAll n cs))
+  -- "a key goes out only for a right then for use"
+  pub key-out : (c : Call) (h k : Bytes) → KeyOut (tableAfterAll n cs) c h k
+      → LentOut (ledgerThen n cs) (history (ledgerThen n cs) (exchangeOf (tableAfterAll n cs) c)) h k (agent (tableAfterAll n cs) c .reply)
+  -- if the right of number i is for use under h when its key goes out, and for use again after further calls,
+  -- then among these a return under the handle k, set when the key went out, has succeeded
+  pub between : (c : Call) (h k : Bytes) → KeyOut (tableAfterAll n cs) c h k → (more : List Call) (i : ℕ) (h′ : Bytes) (r r′ : Right)
+      → rightNumber i (ledgerThen n cs) ≡ some (forUse h r)
+      → rightNumber i (history (history (ledgerThen n cs) (exchangeOf (tableAfterAll n cs) c)) (exchanges (agent (tableAfterAll n cs) c .table) more)) ≡ some (forUse h′ r′)
+      → returned k (exchanges (agent (tableAfterAll n cs) c .table) more) ≡ true
+  -- no other reply depends on any key
+  pub keys-unseen : (other : Bytes) → AlikeButKeys (tableAfterAll n cs) other → (c : Call) → asksForKey (readRequest (c .request)) ≡ false
+      → SameReply (agent (tableAfterAll n cs) c) (agent other c)

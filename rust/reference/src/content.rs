@@ -1,0 +1,66 @@
+//! The content of a right, in the one form in which it travels.
+//!
+//! The body of kind 2 is a handle and then this; the body of a successful
+//! reply of kind 3 is just this: "key, count, hash count 4 bits, 4 zero bits,
+//! hashes, payload".
+
+use crate::bytes::{array_at, u16_at};
+use crate::{Key, HASH_BYTES, MAX_HASHES, MAX_PAYLOAD};
+
+/// Key, count, and the byte with the hash count.
+const HEAD_BYTES: usize = 19;
+
+const COUNT_AT: usize = 16;
+const HASH_COUNT_AT: usize = 18;
+
+/// What a right holds beside its handle and its place.
+#[derive(Clone, Copy, Debug, PartialEq, Eq)]
+pub(crate) struct Content<'a> {
+    pub key: Key,
+    pub count: u16,
+    pub hashes: &'a [u8],
+    pub payload: &'a [u8],
+}
+
+impl<'a> Content<'a> {
+    /// Reads a content that fills all of `bytes`; `None` for "hash count over
+    /// 8, the 4 bits not zero, or payload [...] not 1 to 4,096 bytes". Hashes
+    /// that overrun `bytes` leave no payload, so they are refused as well.
+    pub fn read(bytes: &'a [u8]) -> Option<Self> {
+        let (head, rest) = bytes.split_at_checked(HEAD_BYTES)?;
+        let hash_count = read_hash_count(head[HASH_COUNT_AT])?;
+        let (hashes, payload) = rest.split_at_checked(HASH_BYTES * hash_count)?;
+        payload_length_is_right(payload.len()).then_some(Content {
+            key: array_at(head, 0),
+            count: u16_at(head, COUNT_AT),
+            hashes,
+            payload,
+        })
+    }
+
+    /// Appends this content to `out`.
+    pub fn write_to(&self, out: &mut Vec<u8>) {
+        out.extend(self.key);
+        out.extend(self.count.to_be_bytes());
+        out.push(hash_count(self.hashes) << 4);
+        out.extend(self.hashes);
+        out.extend(self.payload);
+    }
+}
+
+/// "hash count 4 bits, 4 zero bits"; `None` if a zero bit is set or the count
+/// is over 8.
+fn read_hash_count(byte: u8) -> Option<usize> {
+    let count = usize::from(byte >> 4);
+    (count <= MAX_HASHES && byte & 0x0F == 0).then_some(count)
+}
+
+/// The number of hashes in `hashes`, which has 0 to 8 whole ones.
+pub(crate) fn hash_count(hashes: &[u8]) -> u8 {
+    u8::try_from(hashes.len() / HASH_BYTES).expect("there are at most 8 hashes")
+}
+
+/// "payload 1 to 4,096".
+pub(crate) fn payload_length_is_right(length: usize) -> bool {
+    (1..=MAX_PAYLOAD).contains(&length)
+}

@@ -1,0 +1,161 @@
+//! Replies and their reader.
+
+use crate::bytes::{array_at, u16_at};
+use crate::content::{payload_length_is_right, Content};
+use crate::frame::{self, Frame};
+use crate::number::NO_REPLY;
+use crate::{Key, Kind, Status, HANDLE_BYTES, KEY_BYTES, MAX_SLOTS};
+
+/// The bit of the first body byte of kind 8 that says "more".
+const MORE: u8 = 0b1000_0000;
+
+/// The "7 zero bits" beside it.
+const ZERO_BITS: u8 = 0b0111_1111;
+
+/// In the body of kind 9, the count comes before the payload.
+const COUNT_BYTES: usize = 2;
+
+/// The fields of a reply. A field that the reply lacks is zero or empty.
+///
+/// | kind, at success | fields |
+/// |---|---|
+/// | 3 | key, count, hashes, payload |
+/// | 4 | key |
+/// | 8 | more, handles |
+/// | 9 | count, payload |
+#[derive(Clone, Copy, Debug, Default, PartialEq, Eq)]
+pub struct ReplyFields<'a> {
+    /// The key (REK) of the right.
+    pub key: Key,
+    /// The count of the right.
+    pub count: u16,
+    /// The asset hashes of the right, one after another.
+    pub hashes: &'a [u8],
+    /// The payload of the right.
+    pub payload: &'a [u8],
+    /// Whether a handle was left off the list.
+    pub more: bool,
+    /// The listed handles, one after another.
+    pub handles: &'a [u8],
+}
+
+/// A reply that the reader accepts.
+#[derive(Clone, Copy, Debug, PartialEq, Eq)]
+pub struct Reply<'a> {
+    /// "kind 5 bits as asked": 0 to 31, and 1 to 9 where the status is 0.
+    pub kind: u8,
+    /// The status.
+    pub status: Status,
+    /// The fields that the reply has; the others are zero or empty.
+    pub fields: ReplyFields<'a>,
+}
+
+/// Reads a reply frame: "refuses with 203 unless length, version and zero
+/// bits are right, status is 0 to 8, and the body is empty for a status other
+/// than 0 or of its kind's shape for 0".
+pub fn read_reply(bytes: &[u8]) -> Result<Reply<'_>, u16> {
+    read(bytes).ok_or(NO_REPLY)
+}
+
+fn read(bytes: &[u8]) -> Option<Reply<'_>> {
+    let frame = Frame::split(bytes).filter(Frame::version_is_right)?;
+    let status = Status::from_number(frame.second)?;
+    let fields = match status {
+        Status::Success => read_success(frame.kind_bits(), frame.body)?,
+        _ => read_empty(frame.body)?,
+    };
+    Some(Reply {
+        kind: frame.kind_bits(),
+        status,
+        fields,
+    })
+}
+
+/// Reads the body of a reply with status 0: "no success for kinds outside 1
+/// to 9".
+fn read_success(kind_bits: u8, body: &[u8]) -> Option<ReplyFields<'_>> {
+    match Kind::from_number(kind_bits)? {
+        Kind::InstallationSetup
+        | Kind::RightsInstallation
+        | Kind::RightsEnablement
+        | Kind::RightsRemoval
+        | Kind::HandleRemoval => read_empty(body),
+        Kind::RightsRetrieval => read_content(body),
+        Kind::RekQuery => read_key(body),
+        Kind::HandleListQuery => read_handles(body),
+        Kind::RightsInformationQuery => read_information(body),
+    }
+}
+
+/// "Every status but 0 has an empty body", and some successes too.
+fn read_empty(body: &[u8]) -> Option<ReplyFields<'_>> {
+    body.is_empty().then(ReplyFields::default)
+}
+
+/// "kind 3: zero bits 0, at most 8 hashes, payload 1 to 4,096".
+fn read_content(body: &[u8]) -> Option<ReplyFields<'_>> {
+    let content = Content::read(body)?;
+    Some(ReplyFields {
+        key: content.key,
+        count: content.count,
+        hashes: content.hashes,
+        payload: content.payload,
+        ..ReplyFields::default()
+    })
+}
+
+/// Kind 4: the key and nothing else.
+fn read_key(body: &[u8]) -> Option<ReplyFields<'_>> {
+    (body.len() == KEY_BYTES).then(|| ReplyFields {
+        key: array_at(body, 0),
+        ..ReplyFields::default()
+    })
+}
+
+/// "kind 8: zero bits 0, 0 to 15 whole handles".
+fn read_handles(body: &[u8]) -> Option<ReplyFields<'_>> {
+    let (&first, handles) = body.split_first()?;
+    (first & ZERO_BITS == 0 && handles_are_whole(handles)).then_some(ReplyFields {
+        more: first & MORE != 0,
+        handles,
+        ..ReplyFields::default()
+    })
+}
+
+fn handles_are_whole(handles: &[u8]) -> bool {
+    handles.len().is_multiple_of(HANDLE_BYTES) && handles.len() <= HANDLE_BYTES * MAX_SLOTS
+}
+
+/// "kind 9: payload 1 to 4,096", after the count.
+fn read_information(body: &[u8]) -> Option<ReplyFields<'_>> {
+    let (count, payload) = body.split_at_checked(COUNT_BYTES)?;
+    payload_length_is_right(payload.len()).then_some(ReplyFields {
+        count: u16_at(count, 0),
+        payload,
+        ..ReplyFields::default()
+    })
+}
+
+/// The bytes of the reply to a request that was carried out, or not: "version
+/// 3 bits (1), kind 5 bits as asked; status 8 bits; body length 16 bits;
+/// body. Every status but 0 has an empty body."
+pub(crate) fn reply_frame(kind_bits: u8, outcome: &Result<Vec<u8>, Status>) -> Vec<u8> {
+    match outcome {
+        Ok(body) => frame::join(kind_bits, Status::Success.number(), body),
+        Err(status) => frame::join(kind_bits, status.number(), &[]),
+    }
+}
+
+/// The body "more 1 bit, 7 zero bits, handles" of kind 8.
+pub(crate) fn handles_body(more: bool, handles: &[crate::Handle]) -> Vec<u8> {
+    let mut body = vec![if more { MORE } else { 0 }];
+    body.extend(handles.as_flattened());
+    body
+}
+
+/// The body "count, payload" of kind 9.
+pub(crate) fn information_body(count: u16, payload: &[u8]) -> Vec<u8> {
+    let mut body = count.to_be_bytes().to_vec();
+    body.extend(payload);
+    body
+}

@@ -1,0 +1,258 @@
+//! Requests: their fields, their reader and their writer.
+
+use crate::bytes::{array_at, u16_at};
+use crate::content::{hash_count, payload_length_is_right, Content};
+use crate::frame::{self, Frame};
+use crate::number::{DONE, WRITER_BUFFER_SHORT, WRITER_FIELDS};
+use crate::{Handle, Key, Kind, Status, HANDLE_BYTES, HASH_BYTES, MAX_HASHES};
+
+/// The second byte of a request with "verdict 1 bit (1 means the MAC held)".
+const VERDICT: u8 = 0b1000_0000;
+
+/// The "7 zero bits" of the second byte of a request.
+const ZERO_BITS: u8 = 0b0111_1111;
+
+/// In the body of kind 8, "limit 16 bits, hash count 8 bits" come before the
+/// hashes.
+const LIST_HEAD_BYTES: usize = 3;
+
+/// The fields of a request of any kind. A field that the kind lacks is zero
+/// or empty.
+///
+/// | kinds | fields |
+/// |---|---|
+/// | 1 | handle, length |
+/// | 2 | handle, key, count, hashes, payload |
+/// | 3, 4 | handle, new handle |
+/// | 5 | handle, count |
+/// | 6, 7, 9 | handle |
+/// | 8 | limit, hashes |
+#[derive(Clone, Copy, Debug, Default, PartialEq, Eq)]
+pub struct Fields<'a> {
+    /// The handle that the request is about.
+    pub handle: Handle,
+    /// The handle that a lent right is to have.
+    pub new_handle: Handle,
+    /// The key (REK) of a right to be installed.
+    pub key: Key,
+    /// The room asked for by a setup.
+    pub length: u16,
+    /// The count of a right.
+    pub count: u16,
+    /// The bytes of handles that a list may have; 0 for no limit.
+    pub limit: u16,
+    /// Asset hashes, one after another.
+    pub hashes: &'a [u8],
+    /// The payload of a right to be installed.
+    pub payload: &'a [u8],
+}
+
+/// A request that passed every test that needs no table.
+///
+/// The verdict is not kept: in kinds 1 to 7 it is 1, and 8 and 9 ignore it.
+#[derive(Clone, Copy, Debug, PartialEq, Eq)]
+pub struct Request<'a> {
+    /// The kind.
+    pub kind: Kind,
+    /// The fields that the kind has; the others are zero or empty.
+    pub fields: Fields<'a>,
+}
+
+/// "A frame is either a request with its fields or exactly one refusal".
+#[derive(Clone, Copy, Debug, PartialEq, Eq)]
+pub enum ReadRequest<'a> {
+    /// 104: "frame under 4 bytes, or its length not 4 plus its body length".
+    NoFrame,
+    /// A frame that the agent answers with this status, whatever the table.
+    Refused(Status),
+    /// A request with its fields.
+    Request(Request<'a>),
+}
+
+/// Reads a request frame: "104, then the tests for all kinds, then the field
+/// tests of kinds 2 and 8 (length 0 of kind 1 is the agent's)".
+pub fn read_request(bytes: &[u8]) -> ReadRequest<'_> {
+    let Some(frame) = Frame::split(bytes) else {
+        return ReadRequest::NoFrame;
+    };
+    match read_frame(&frame) {
+        Ok(request) => ReadRequest::Request(request),
+        Err(status) => ReadRequest::Refused(status),
+    }
+}
+
+fn read_frame<'a>(frame: &Frame<'a>) -> Result<Request<'a>, Status> {
+    let kind = test_for_all_kinds(frame)?;
+    let fields = read_fields(kind, frame.body).ok_or(Status::ParameterFailed)?;
+    Ok(Request { kind, fields })
+}
+
+/// "First, for all kinds: version not 1 or one of the 7 zero bits set, 2;
+/// kind not 1 to 9, 3; body length outside the kind's, 2; verdict 0 for kinds
+/// 1 to 7, 1".
+fn test_for_all_kinds(frame: &Frame<'_>) -> Result<Kind, Status> {
+    if !frame.version_is_right() || frame.second & ZERO_BITS != 0 {
+        return Err(Status::ParameterFailed);
+    }
+    let kind = Kind::from_number(frame.kind_bits()).ok_or(Status::RequestNotSupported)?;
+    if !kind.takes_body_of(frame.body.len()) {
+        return Err(Status::ParameterFailed);
+    }
+    if kind.heeds_verdict() && frame.second & VERDICT == 0 {
+        return Err(Status::FieldIntegrityVerificationFailed);
+    }
+    Ok(kind)
+}
+
+/// Reads the fields of a body whose length is the kind's; `None` where a
+/// field test of kind 2 or 8 fails.
+fn read_fields(kind: Kind, body: &[u8]) -> Option<Fields<'_>> {
+    let none = Fields::default();
+    if kind == Kind::HandleListQuery {
+        return read_list_fields(body);
+    }
+    let (handle, rest) = (array_at(body, 0), &body[HANDLE_BYTES..]);
+    let fields = match kind {
+        Kind::InstallationSetup => Fields {
+            length: u16_at(rest, 0),
+            ..none
+        },
+        Kind::RightsInstallation => read_content_fields(rest)?,
+        Kind::RightsRetrieval | Kind::RekQuery => Fields {
+            new_handle: array_at(rest, 0),
+            ..none
+        },
+        Kind::RightsEnablement => Fields {
+            count: u16_at(rest, 0),
+            ..none
+        },
+        _ => none,
+    };
+    Some(Fields { handle, ..fields })
+}
+
+/// The field tests of kind 2: "hash count over 8, the 4 bits not zero, or
+/// payload (body less 29 less 20 times the hash count) not 1 to 4,096 bytes,
+/// 2".
+fn read_content_fields(content: &[u8]) -> Option<Fields<'_>> {
+    let content = Content::read(content)?;
+    Some(Fields {
+        key: content.key,
+        count: content.count,
+        hashes: content.hashes,
+        payload: content.payload,
+        ..Fields::default()
+    })
+}
+
+/// The field tests of kind 8: "hash count over 8, or body not 3 plus 20 times
+/// the hash count, 2".
+fn read_list_fields(body: &[u8]) -> Option<Fields<'_>> {
+    let (head, hashes) = body.split_at_checked(LIST_HEAD_BYTES)?;
+    let hash_count = usize::from(head[2]);
+    (hash_count <= MAX_HASHES && hashes.len() == HASH_BYTES * hash_count).then_some(Fields {
+        limit: u16_at(head, 0),
+        hashes,
+        ..Fields::default()
+    })
+}
+
+/// Writes a request frame at the start of `out` and gives 0, or refuses with
+/// 202 or 201, in that order. It "writes the verdict as 1", "leaves the rest
+/// of its buffer as found" and on a refusal changes no byte.
+pub fn write_request(kind: u8, fields: &Fields<'_>, out: &mut [u8]) -> u16 {
+    let Some(kind) = Kind::from_number(kind) else {
+        return WRITER_FIELDS;
+    };
+    if !fields_are_right(kind, fields) {
+        return WRITER_FIELDS;
+    }
+    let frame = frame::join(kind.number(), VERDICT, &body(kind, fields));
+    let Some(place) = out.get_mut(..frame.len()) else {
+        return WRITER_BUFFER_SHORT;
+    };
+    place.copy_from_slice(&frame);
+    DONE
+}
+
+/// Whether the writer takes these fields; the opposite of "hash bytes not a
+/// multiple of 20 up to 160, for kind 2 a payload not 1 to 4,096 bytes, or a
+/// field that the kind lacks and that is not empty or zero".
+fn fields_are_right(kind: Kind, fields: &Fields<'_>) -> bool {
+    hashes_are_whole(fields.hashes)
+        && (kind != Kind::RightsInstallation || payload_length_is_right(fields.payload.len()))
+        && *fields == own_fields(kind, fields)
+}
+
+fn hashes_are_whole(hashes: &[u8]) -> bool {
+    hashes.len().is_multiple_of(HASH_BYTES) && hashes.len() <= HASH_BYTES * MAX_HASHES
+}
+
+/// The fields that the kind has, as they are, with all others zero or empty.
+fn own_fields<'a>(kind: Kind, fields: &Fields<'a>) -> Fields<'a> {
+    let handle_only = Fields {
+        handle: fields.handle,
+        ..Fields::default()
+    };
+    match kind {
+        Kind::InstallationSetup => Fields {
+            length: fields.length,
+            ..handle_only
+        },
+        Kind::RightsInstallation => Fields {
+            key: fields.key,
+            count: fields.count,
+            hashes: fields.hashes,
+            payload: fields.payload,
+            ..handle_only
+        },
+        Kind::RightsRetrieval | Kind::RekQuery => Fields {
+            new_handle: fields.new_handle,
+            ..handle_only
+        },
+        Kind::RightsEnablement => Fields {
+            count: fields.count,
+            ..handle_only
+        },
+        Kind::RightsRemoval | Kind::HandleRemoval | Kind::RightsInformationQuery => handle_only,
+        Kind::HandleListQuery => Fields {
+            limit: fields.limit,
+            hashes: fields.hashes,
+            ..Fields::default()
+        },
+    }
+}
+
+/// The body of a request whose fields are right.
+fn body(kind: Kind, fields: &Fields<'_>) -> Vec<u8> {
+    if kind == Kind::HandleListQuery {
+        return list_body(fields);
+    }
+    let mut body = fields.handle.to_vec();
+    match kind {
+        Kind::InstallationSetup => body.extend(fields.length.to_be_bytes()),
+        Kind::RightsInstallation => content_of(fields).write_to(&mut body),
+        Kind::RightsRetrieval | Kind::RekQuery => body.extend(fields.new_handle),
+        Kind::RightsEnablement => body.extend(fields.count.to_be_bytes()),
+        _ => {}
+    }
+    body
+}
+
+/// "limit 16 bits, hash count 8 bits, hashes".
+fn list_body(fields: &Fields<'_>) -> Vec<u8> {
+    let mut body = fields.limit.to_be_bytes().to_vec();
+    body.push(hash_count(fields.hashes));
+    body.extend(fields.hashes);
+    body
+}
+
+/// The content that a request of kind 2 carries.
+pub(crate) fn content_of<'a>(fields: &Fields<'a>) -> Content<'a> {
+    Content {
+        key: fields.key,
+        count: fields.count,
+        hashes: fields.hashes,
+        payload: fields.payload,
+    }
+}

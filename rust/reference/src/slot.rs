@@ -1,0 +1,245 @@
+//! One slot of 4,288 bytes: its fields, its rules, and the changes that the
+//! agent makes to it.
+//!
+//! | bytes | content |
+//! |---|---|
+//! | 0 | place 2 bits, hash count 4 bits, 2 spare bits |
+//! | 1–10 | handle |
+//! | 11–26 | key (REK) |
+//! | 27–28 | count |
+//! | 29–30 | payload length |
+//! | 31–190 | up to 8 asset hashes of 20 bytes (SHA-1) |
+//! | 191 | zero |
+//! | 192–4287 | payload |
+
+use std::slice::ChunksExact;
+
+use crate::bytes::{all_zero, array_at, u16_at};
+use crate::content::{self, Content};
+use crate::{Handle, Key, HANDLE_BYTES, HASH_BYTES, KEY_BYTES, MAX_HASHES};
+
+/// "A slot has 4,288 bytes".
+pub const SLOT_BYTES: usize = 4288;
+
+/// The bytes of one slot.
+pub type SlotBytes = [u8; SLOT_BYTES];
+
+const HANDLE_AT: usize = 1;
+const KEY_AT: usize = 11;
+const COUNT_AT: usize = 27;
+const LENGTH_AT: usize = 29;
+const HASHES_AT: usize = 31;
+const ZERO_AT: usize = 191;
+const PAYLOAD_AT: usize = 192;
+
+/// "The place of a record is one of four: 0 empty, 1 reserved, 2 enabled, 3
+/// disabled".
+#[derive(Clone, Copy, Debug, PartialEq, Eq, PartialOrd, Ord)]
+#[repr(u8)]
+pub enum Place {
+    /// The slot holds nothing.
+    Empty = 0,
+    /// The slot is kept for an installation.
+    Reserved = 1,
+    /// The slot holds a right for use.
+    Enabled = 2,
+    /// The slot holds a right that is lent.
+    Disabled = 3,
+}
+
+impl Place {
+    /// The place "as its word".
+    pub fn word(self) -> &'static str {
+        match self {
+            Place::Empty => "empty",
+            Place::Reserved => "reserved",
+            Place::Enabled => "enabled",
+            Place::Disabled => "disabled",
+        }
+    }
+}
+
+/// The place: the two highest bits of byte 0.
+pub fn place(slot: &SlotBytes) -> Place {
+    match slot[0] >> 6 {
+        0 => Place::Empty,
+        1 => Place::Reserved,
+        2 => Place::Enabled,
+        _ => Place::Disabled,
+    }
+}
+
+/// The hash count, 0 to 15: the four middle bits of byte 0.
+pub fn hash_count(slot: &SlotBytes) -> usize {
+    usize::from(slot[0] >> 2 & 0b1111)
+}
+
+/// The spare bits: the two lowest bits of byte 0.
+pub fn spare_bits(slot: &SlotBytes) -> u8 {
+    slot[0] & 0b11
+}
+
+/// The handle bytes. An empty slot has no handle; see [`has_handle`].
+pub fn handle(slot: &SlotBytes) -> Handle {
+    array_at(slot, HANDLE_AT)
+}
+
+/// The key.
+pub fn key(slot: &SlotBytes) -> Key {
+    array_at(slot, KEY_AT)
+}
+
+/// The count; "A count of 0 says that the right keeps no count".
+pub fn count(slot: &SlotBytes) -> u16 {
+    u16_at(slot, COUNT_AT)
+}
+
+/// The payload length, which in a reserved slot is "the room asked for".
+pub fn length(slot: &SlotBytes) -> u16 {
+    u16_at(slot, LENGTH_AT)
+}
+
+/// The bytes of the hashes that the hash count tells of, at most 8 hashes.
+pub fn hashes(slot: &SlotBytes) -> &[u8] {
+    split_hashes(slot).0
+}
+
+/// The payload bytes that the length tells of, at most 4,096 of them; none
+/// unless the slot is enabled or disabled.
+pub fn payload(slot: &SlotBytes) -> &[u8] {
+    match place(slot) {
+        Place::Empty | Place::Reserved => &[],
+        Place::Enabled | Place::Disabled => split_payload(slot).0,
+    }
+}
+
+/// Whether the slot is not empty and its handle is `wanted`: "all but empty
+/// have a handle".
+pub fn has_handle(slot: &SlotBytes, wanted: &Handle) -> bool {
+    place(slot) != Place::Empty && handle(slot) == *wanted
+}
+
+/// Whether the slot has some hash of `wanted`, which is whole hashes.
+pub fn has_hash_of(slot: &SlotBytes, wanted: &[u8]) -> bool {
+    each_hash(wanted).any(|hash| each_hash(hashes(slot)).any(|own| own == hash))
+}
+
+/// Whether the slot is well formed.
+pub fn well_formed(slot: &SlotBytes) -> bool {
+    spare_bits(slot) == 0
+        && slot[ZERO_AT] == 0
+        && hash_count(slot) <= MAX_HASHES
+        && all_zero(split_hashes(slot).1)
+        && all_zero(split_payload(slot).1)
+        && well_formed_for_place(slot)
+}
+
+/// The rule that the slot's place adds.
+fn well_formed_for_place(slot: &SlotBytes) -> bool {
+    match place(slot) {
+        Place::Empty => all_zero(slot),
+        Place::Reserved => length_is_right(slot) && holds_no_right(slot),
+        Place::Enabled | Place::Disabled => length_is_right(slot),
+    }
+}
+
+/// "length 1 to 4,096".
+fn length_is_right(slot: &SlotBytes) -> bool {
+    content::payload_length_is_right(length(slot).into())
+}
+
+/// "hash count, key, count and payload all 0".
+fn holds_no_right(slot: &SlotBytes) -> bool {
+    hash_count(slot) == 0
+        && all_zero(&key(slot))
+        && count(slot) == 0
+        && all_zero(&slot[PAYLOAD_AT..])
+}
+
+fn each_hash(hashes: &[u8]) -> ChunksExact<'_, u8> {
+    hashes.chunks_exact(HASH_BYTES)
+}
+
+/// The hash bytes within the count and those beyond it.
+fn split_hashes(slot: &SlotBytes) -> (&[u8], &[u8]) {
+    let all = &slot[HASHES_AT..ZERO_AT];
+    all.split_at(all.len().min(HASH_BYTES * hash_count(slot)))
+}
+
+/// The payload bytes within the length and those beyond it.
+fn split_payload(slot: &SlotBytes) -> (&[u8], &[u8]) {
+    let all = &slot[PAYLOAD_AT..];
+    all.split_at(all.len().min(length(slot).into()))
+}
+
+/// Kind 1: "The lowest empty slot becomes reserved". The slot is empty.
+pub(crate) fn reserve(slot: &mut SlotBytes, handle: &Handle, length: u16) {
+    set_place(slot, Place::Reserved);
+    set_handle(slot, handle);
+    put(slot, LENGTH_AT, &length.to_be_bytes());
+}
+
+/// Kind 2: "The record becomes enabled with the fields given; its length is
+/// the payload's". The slot is reserved, so all that is not written is 0.
+pub(crate) fn fill(slot: &mut SlotBytes, content: &Content<'_>) {
+    let length = u16::try_from(content.payload.len()).expect("a payload has at most 4,096 bytes");
+    slot[0] = content::hash_count(content.hashes) << 2;
+    set_place(slot, Place::Enabled);
+    put(slot, KEY_AT, &content.key);
+    set_count(slot, content.count);
+    put(slot, LENGTH_AT, &length.to_be_bytes());
+    put(slot, HASHES_AT, content.hashes);
+    put(slot, PAYLOAD_AT, content.payload);
+}
+
+/// Kinds 3 and 4: "The handle is overwritten, the record disabled, nothing
+/// else".
+pub(crate) fn lend(slot: &mut SlotBytes, new_handle: &Handle) {
+    set_place(slot, Place::Disabled);
+    set_handle(slot, new_handle);
+}
+
+/// Kind 5: "A disabled record is enabled with the request's count".
+pub(crate) fn enable(slot: &mut SlotBytes, count: u16) {
+    set_place(slot, Place::Enabled);
+    set_count(slot, count);
+}
+
+/// Kinds 6 and 7: "All bytes of the slot become 0".
+pub(crate) fn clear(slot: &mut SlotBytes) {
+    slot.fill(0);
+}
+
+/// The content of a slot that is enabled or disabled.
+pub(crate) fn content(slot: &SlotBytes) -> Content<'_> {
+    Content {
+        key: key(slot),
+        count: count(slot),
+        hashes: hashes(slot),
+        payload: payload(slot),
+    }
+}
+
+fn set_place(slot: &mut SlotBytes, place: Place) {
+    slot[0] = (place as u8) << 6 | slot[0] & 0b0011_1111;
+}
+
+fn set_handle(slot: &mut SlotBytes, handle: &Handle) {
+    put(slot, HANDLE_AT, handle);
+}
+
+fn set_count(slot: &mut SlotBytes, count: u16) {
+    put(slot, COUNT_AT, &count.to_be_bytes());
+}
+
+fn put(slot: &mut SlotBytes, offset: usize, bytes: &[u8]) {
+    slot[offset..offset + bytes.len()].copy_from_slice(bytes);
+}
+
+/// The fields of a slot follow each other without a gap.
+const _: () = {
+    assert!(HANDLE_AT + HANDLE_BYTES == KEY_AT);
+    assert!(KEY_AT + KEY_BYTES == COUNT_AT);
+    assert!(HASHES_AT + MAX_HASHES * HASH_BYTES == ZERO_AT);
+    assert!(PAYLOAD_AT + crate::MAX_PAYLOAD == SLOT_BYTES);
+};

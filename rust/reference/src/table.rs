@@ -1,0 +1,81 @@
+//! A table of 1 to 15 slots.
+
+use crate::number::{TABLE_LENGTH, TABLE_NOT_WELL_FORMED};
+use crate::slot::{self, Place, SlotBytes};
+use crate::{Handle, SLOT_BYTES};
+
+/// "a table has 1 to 15 slots".
+pub const MAX_SLOTS: usize = 15;
+
+/// The whole slots of a table, in order.
+pub fn slots(table: &[u8]) -> &[SlotBytes] {
+    table.as_chunks::<SLOT_BYTES>().0
+}
+
+/// The whole slots of a table, in order, to be changed.
+pub fn slots_mut(table: &mut [u8]) -> &mut [SlotBytes] {
+    table.as_chunks_mut::<SLOT_BYTES>().0
+}
+
+/// Whether `table` is 1 to 15 whole slots and well formed.
+pub fn well_formed(table: &[u8]) -> bool {
+    check(table).is_ok()
+}
+
+/// Tests a table: 102 for a "table length not 1 to 15 whole slots", then 103
+/// for a "table not well formed".
+pub fn check(table: &[u8]) -> Result<(), u16> {
+    if !length_is_right(table) {
+        return Err(TABLE_LENGTH);
+    }
+    let slots = slots(table);
+    if !slots.iter().all(slot::well_formed) || two_share_a_handle(slots) {
+        return Err(TABLE_NOT_WELL_FORMED);
+    }
+    Ok(())
+}
+
+fn length_is_right(table: &[u8]) -> bool {
+    let (slots, rest) = table.as_chunks::<SLOT_BYTES>();
+    (1..=MAX_SLOTS).contains(&slots.len()) && rest.is_empty()
+}
+
+/// Whether "two non-empty slots have the same handle".
+fn two_share_a_handle(slots: &[SlotBytes]) -> bool {
+    slots.iter().enumerate().any(|(index, slot)| {
+        slot::place(slot) != Place::Empty && holds(&slots[index + 1..], &slot::handle(slot))
+    })
+}
+
+/// Whether the handle is "in any non-empty slot".
+pub(crate) fn holds(slots: &[SlotBytes], handle: &Handle) -> bool {
+    slots.iter().any(|slot| slot::has_handle(slot, handle))
+}
+
+/// The lowest empty slot.
+pub(crate) fn lowest_empty(slots: &[SlotBytes]) -> Option<usize> {
+    slots
+        .iter()
+        .position(|slot| slot::place(slot) == Place::Empty)
+}
+
+/// Where a handle is.
+#[derive(Clone, Copy, Debug, PartialEq, Eq)]
+pub(crate) enum Found {
+    /// In no slot.
+    Absent,
+    /// In the slot of this index and in no other.
+    At(usize),
+    /// "in more than one slot".
+    InSeveral,
+}
+
+/// Looks for a handle among the non-empty slots.
+pub(crate) fn find(slots: &[SlotBytes], handle: &Handle) -> Found {
+    let mut indices = (0..slots.len()).filter(|&index| slot::has_handle(&slots[index], handle));
+    match (indices.next(), indices.next()) {
+        (None, _) => Found::Absent,
+        (Some(index), None) => Found::At(index),
+        (Some(_), Some(_)) => Found::InSeveral,
+    }
+}

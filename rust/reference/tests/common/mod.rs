@@ -1,0 +1,300 @@
+//! What the tests share: a small random number generator, frames written by
+//! hand, and requests made at random.
+
+#![allow(dead_code)] // no single test file needs all of it
+
+use reference::{Fields, Handle, Key, HASH_BYTES, REPLY_ROOM, SLOT_BYTES};
+
+/// The seed of the random tests unless `REFERENCE_SEED` gives another.
+const DEFAULT_SEED: u64 = 0x5EED_0001;
+
+/// What reply buffers hold before a call.
+pub const FILLER: u8 = 0xA5;
+
+/// The splitmix64 generator.
+pub struct Rng(u64);
+
+impl Rng {
+    /// A generator whose seed is printed, so that a failed run can be
+    /// repeated.
+    pub fn announced(test: &str) -> Self {
+        let seed = match std::env::var("REFERENCE_SEED") {
+            Ok(text) => text.parse().expect("REFERENCE_SEED is a decimal number"),
+            Err(_) => DEFAULT_SEED,
+        };
+        println!("{test}: REFERENCE_SEED={seed}");
+        Rng(seed)
+    }
+
+    pub fn next(&mut self) -> u64 {
+        self.0 = self.0.wrapping_add(0x9E37_79B9_7F4A_7C15);
+        let mut z = self.0;
+        z = (z ^ (z >> 30)).wrapping_mul(0xBF58_476D_1CE4_E5B9);
+        z = (z ^ (z >> 27)).wrapping_mul(0x94D0_49BB_1331_11EB);
+        z ^ (z >> 31)
+    }
+
+    /// A number under `bound`.
+    pub fn below(&mut self, bound: usize) -> usize {
+        (self.next() % bound as u64) as usize
+    }
+
+    /// True once in `n` times.
+    pub fn one_in(&mut self, n: usize) -> bool {
+        self.below(n) == 0
+    }
+
+    pub fn byte(&mut self) -> u8 {
+        self.next() as u8
+    }
+
+    pub fn bytes(&mut self, length: usize) -> Vec<u8> {
+        (0..length).map(|_| self.byte()).collect()
+    }
+
+    pub fn pick<T: Copy>(&mut self, items: &[T]) -> T {
+        items[self.below(items.len())]
+    }
+}
+
+/// The fields of a request, with hashes and payload of its own.
+#[derive(Clone, Debug, Default)]
+pub struct OwnFields {
+    pub handle: Handle,
+    pub new_handle: Handle,
+    pub key: Key,
+    pub length: u16,
+    pub count: u16,
+    pub limit: u16,
+    pub hashes: Vec<u8>,
+    pub payload: Vec<u8>,
+}
+
+impl OwnFields {
+    pub fn lent(&self) -> Fields<'_> {
+        Fields {
+            handle: self.handle,
+            new_handle: self.new_handle,
+            key: self.key,
+            length: self.length,
+            count: self.count,
+            limit: self.limit,
+            hashes: &self.hashes,
+            payload: &self.payload,
+        }
+    }
+}
+
+/// Makes requests at random, about few handles and few hashes, so that they
+/// meet each other.
+pub struct Asker {
+    handles: usize,
+}
+
+impl Asker {
+    /// For requests about `handles` handles, the handle of zeros among them.
+    pub fn new(handles: usize) -> Self {
+        Asker { handles }
+    }
+
+    fn handle(&self, rng: &mut Rng) -> Handle {
+        [rng.below(self.handles) as u8; 10]
+    }
+
+    fn hashes(&self, rng: &mut Rng) -> Vec<u8> {
+        let count = rng.pick(&[0, 0, 1, 1, 2, 3, 7, 8]);
+        (0..count)
+            .flat_map(|_| [rng.below(6) as u8; HASH_BYTES])
+            .collect()
+    }
+
+    fn setup_length(&self, rng: &mut Rng) -> u16 {
+        match rng.below(16) {
+            0 => rng.pick(&[0, 1, 4095, 4096, 4097, 0x8001, 0xFFFF]),
+            1..8 => 4096,
+            _ => 1 + rng.below(60) as u16,
+        }
+    }
+
+    fn payload_length(&self, rng: &mut Rng) -> usize {
+        match rng.below(12) {
+            0 => rng.pick(&[1, 4095, 4096]),
+            _ => 1 + rng.below(60),
+        }
+    }
+
+    /// Fields that the writer takes for this kind.
+    pub fn fields(&self, rng: &mut Rng, kind: u8) -> OwnFields {
+        let mut fields = OwnFields::default();
+        if kind != 8 {
+            fields.handle = self.handle(rng);
+        }
+        match kind {
+            1 => fields.length = self.setup_length(rng),
+            2 => {
+                fields.key = [rng.byte(); 16];
+                fields.count = rng.byte().into();
+                fields.hashes = self.hashes(rng);
+                let length = self.payload_length(rng);
+                fields.payload = rng.bytes(length);
+            }
+            3 | 4 => fields.new_handle = self.handle(rng),
+            5 => fields.count = rng.next() as u16,
+            8 => {
+                fields.limit = rng.pick(&[0, 0, 1, 9, 10, 19, 20, 55, 149, 150, 0xFFFF]);
+                fields.hashes = self.hashes(rng);
+            }
+            _ => {}
+        }
+        fields
+    }
+
+    /// A frame that is mostly a request, more often of the kinds that a right
+    /// goes through, and now and then spoilt.
+    pub fn frame(&self, rng: &mut Rng) -> Vec<u8> {
+        let kind = rng.pick(&[1, 1, 1, 2, 2, 2, 2, 3, 4, 4, 5, 5, 6, 7, 8, 8, 9]);
+        let fields = self.fields(rng, kind);
+        let mut frame = request_bytes(kind, 0x80, &body_bytes(kind, &fields));
+        if rng.one_in(6) {
+            spoil(rng, &mut frame);
+        }
+        frame
+    }
+}
+
+/// Changes a frame of 4 bytes or more in a way that some test should notice.
+fn spoil(rng: &mut Rng, frame: &mut Vec<u8>) {
+    match rng.below(8) {
+        0 => frame[0] = rng.byte(),
+        1 => frame[1] = rng.byte(),
+        2 => frame[1] = 0,
+        3 => frame[3] ^= 1 << rng.below(8),
+        4 => frame.truncate(rng.below(frame.len())),
+        5 => {
+            let index = rng.below(frame.len());
+            frame[index] ^= 1 << rng.below(8);
+        }
+        6 => {
+            let body = rng.bytes(frame.len() % 64);
+            *frame = request_bytes(frame[0] & 31, 0x80, &body);
+        }
+        _ => {
+            let kind = rng.pick(&[0, 10, 16, 31]);
+            *frame = request_bytes(kind, 0x80, &frame[4..]);
+        }
+    }
+}
+
+/// A frame of version 1, put together apart from the library.
+pub fn request_bytes(kind: u8, second: u8, body: &[u8]) -> Vec<u8> {
+    let mut frame = vec![0x20 + kind, second];
+    frame.extend((body.len() as u16).to_be_bytes());
+    frame.extend(body);
+    frame
+}
+
+/// The body of a request, put together apart from the library.
+pub fn body_bytes(kind: u8, fields: &OwnFields) -> Vec<u8> {
+    let hash_count = (fields.hashes.len() / HASH_BYTES) as u8;
+    let handle = fields.handle.as_slice();
+    match kind {
+        1 => [handle, &fields.length.to_be_bytes()].concat(),
+        2 => [
+            handle,
+            &fields.key,
+            &fields.count.to_be_bytes(),
+            &[hash_count * 16],
+            &fields.hashes,
+            &fields.payload,
+        ]
+        .concat(),
+        3 | 4 => [handle, &fields.new_handle].concat(),
+        5 => [handle, &fields.count.to_be_bytes()].concat(),
+        8 => [
+            fields.limit.to_be_bytes().as_slice(),
+            &[hash_count],
+            &fields.hashes,
+        ]
+        .concat(),
+        _ => handle.to_vec(),
+    }
+}
+
+/// A table of empty slots.
+pub fn blank(slots: usize) -> Vec<u8> {
+    vec![0; slots * SLOT_BYTES]
+}
+
+/// What a call gave.
+#[derive(Debug, PartialEq, Eq)]
+pub struct Given {
+    pub number: u16,
+    /// The reply, empty where the number is not 0.
+    pub reply: Vec<u8>,
+}
+
+/// Calls the agent with a buffer of `FILLER` and sees that nothing but the
+/// reply was written to it.
+pub fn call(table: &mut [u8], frame: &[u8]) -> Given {
+    let mut buffer = vec![FILLER; REPLY_ROOM + 3];
+    let number = reference::call(table, frame, &mut buffer);
+    let length = match number {
+        0 => 4 + usize::from(u16::from_be_bytes([buffer[2], buffer[3]])),
+        _ => 0,
+    };
+    let rest = buffer.split_off(length);
+    assert!(rest.iter().all(|&byte| byte == FILLER));
+    Given {
+        number,
+        reply: buffer,
+    }
+}
+
+/// Calls the agent and expects this status.
+pub fn call_for(status: u8, table: &mut [u8], kind: u8, fields: &OwnFields) -> Vec<u8> {
+    let given = call(table, &request_bytes(kind, 0x80, &body_bytes(kind, fields)));
+    assert_eq!(given.number, 0);
+    assert_eq!(given.reply[1], status, "kind {kind}, {fields:?}");
+    given.reply
+}
+
+/// A table of five slots: enabled with 2 hashes, reserved, disabled with 8
+/// hashes and the longest payload, empty, and enabled with no hash.
+pub fn mixed_table() -> Vec<u8> {
+    let mut table = blank(5);
+    for (handle, length) in [(1, 40), (2, 7), (3, 4096), (0, 3), (4, 9)] {
+        call_for(0, &mut table, 1, &setup(handle, length));
+    }
+    call_for(0, &mut table, 2, &right(1, 2, 33));
+    call_for(0, &mut table, 2, &right(3, 8, 4096));
+    call_for(0, &mut table, 2, &right(4, 0, 9));
+    let lending = OwnFields {
+        handle: [3; 10],
+        new_handle: [5; 10],
+        ..OwnFields::default()
+    };
+    call_for(0, &mut table, 4, &lending);
+    call_for(0, &mut table, 7, &OwnFields::default());
+    table
+}
+
+/// The fields of a setup under ten bytes `handle`.
+pub fn setup(handle: u8, length: u16) -> OwnFields {
+    OwnFields {
+        handle: [handle; 10],
+        length,
+        ..OwnFields::default()
+    }
+}
+
+/// The fields of an installation under ten bytes `handle`.
+pub fn right(handle: u8, hashes: u8, payload: usize) -> OwnFields {
+    OwnFields {
+        handle: [handle; 10],
+        key: [0x60 + handle; 16],
+        count: 0x100 + u16::from(handle),
+        hashes: (1..=hashes).flat_map(|hash| [hash; HASH_BYTES]).collect(),
+        payload: (0..payload).map(|index| index as u8 | 1).collect(),
+        ..OwnFields::default()
+    }
+}

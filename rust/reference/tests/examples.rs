@@ -1,0 +1,255 @@
+//! The worked examples 1 to 15 of document 01, as one table.
+
+mod common;
+
+use common::{blank, call, Given};
+use reference::SLOT_BYTES;
+use std::collections::HashMap;
+
+/// What a row starts from.
+#[derive(Clone, Copy)]
+enum Start {
+    /// One slot, all zero.
+    Blank,
+    /// The state that the row of this name left.
+    After(&'static str),
+    /// This many bytes, all zero.
+    Zeros(usize),
+}
+
+/// What a row must leave.
+#[derive(Clone, Copy)]
+enum End {
+    /// The table as it was.
+    Same,
+    /// A slot whose bytes are 0 but for these, each run at its offset.
+    Slot(&'static [(usize, &'static str)]),
+}
+
+use End::{Same, Slot};
+use Start::{After, Blank, Zeros};
+
+/// Name, start, frame, number, reply, table afterwards.
+type Row = (&'static str, Start, &'static str, u16, &'static str, End);
+
+/// Bytes are in hex; H1, H2 are handles, K is a key, P5 and P6 are payloads.
+const ROWS: &[Row] = &[
+    (
+        "1",
+        Blank,
+        "21 80 00 0C H1 00 05",
+        0,
+        "21 00 00 00",
+        Slot(&[(0, "40"), (1, "H1"), (29, "00 05")]),
+    ),
+    ("2", Blank, "21 00 00 0C H1 00 05", 0, "21 01 00 00", Same),
+    (
+        "3",
+        After("1"),
+        "21 80 00 0C H1 00 05",
+        0,
+        "21 05 00 00",
+        Same,
+    ),
+    (
+        "4",
+        After("1"),
+        "21 80 00 0C H2 00 05",
+        0,
+        "21 07 00 00",
+        Same,
+    ),
+    ("5", Blank, "21 80 00 0C H1 00 00", 0, "21 02 00 00", Same),
+    (
+        "6 over",
+        Blank,
+        "21 80 00 0C H1 10 01",
+        0,
+        "21 07 00 00",
+        Same,
+    ),
+    (
+        "6",
+        Blank,
+        "21 80 00 0C H1 10 00",
+        0,
+        "21 00 00 00",
+        Slot(&[(0, "40"), (1, "H1"), (29, "10 00")]),
+    ),
+    (
+        "7 over",
+        After("1"),
+        "22 80 00 23 H1 K 00 07 00 P6",
+        0,
+        "22 07 00 00",
+        Same,
+    ),
+    (
+        "7",
+        After("1"),
+        "22 80 00 22 H1 K 00 07 00 P5",
+        0,
+        "22 00 00 00",
+        Slot(&[
+            (0, "80"),
+            (1, "H1"),
+            (11, "K"),
+            (27, "00 07"),
+            (29, "00 05"),
+            (192, "P5"),
+        ]),
+    ),
+    ("8", After("7"), "24 80 00 14 H1 H1", 0, "24 05 00 00", Same),
+    (
+        "9",
+        After("7"),
+        "24 80 00 14 H1 H2",
+        0,
+        "24 00 00 10 K",
+        Slot(&[
+            (0, "C0"),
+            (1, "H2"),
+            (11, "K"),
+            (27, "00 07"),
+            (29, "00 05"),
+            (192, "P5"),
+        ]),
+    ),
+    (
+        "9 again",
+        After("9"),
+        "24 80 00 14 H1 H2",
+        0,
+        "24 04 00 00",
+        Same,
+    ),
+    (
+        "10",
+        After("9"),
+        "24 80 00 14 H2 H1",
+        0,
+        "24 06 00 00",
+        Same,
+    ),
+    (
+        "11",
+        After("9"),
+        "25 80 00 0C H2 00 06",
+        0,
+        "25 00 00 00",
+        Slot(&[
+            (0, "80"),
+            (1, "H2"),
+            (11, "K"),
+            (27, "00 06"),
+            (29, "00 05"),
+            (192, "P5"),
+        ]),
+    ),
+    (
+        "11 again",
+        After("11"),
+        "25 80 00 0C H2 00 05",
+        0,
+        "25 00 00 00",
+        Same,
+    ),
+    (
+        "12 limit 9",
+        After("7"),
+        "28 80 00 03 00 09 00",
+        0,
+        "28 00 00 01 80",
+        Same,
+    ),
+    (
+        "12 limit 10",
+        After("7"),
+        "28 80 00 03 00 0A 00",
+        0,
+        "28 00 00 0B 00 H1",
+        Same,
+    ),
+    ("13", Blank, "2A 80 00 00", 0, "2A 03 00 00", Same),
+    (
+        "13 verdict 0",
+        Blank,
+        "2A 00 00 02 AB CD",
+        0,
+        "2A 03 00 00",
+        Same,
+    ),
+    (
+        "13 with a table",
+        After("7"),
+        "2A 80 00 0A H1",
+        0,
+        "2A 03 00 00",
+        Same,
+    ),
+    ("14 empty", Blank, "", 104, "", Same),
+    ("14 short", Blank, "21 80 00", 104, "", Same),
+    ("15 none", Zeros(0), "21 80 00 0C H1 00 05", 102, "", Same),
+    (
+        "15 part",
+        Zeros(4_287),
+        "21 80 00 0C H1 00 05",
+        102,
+        "",
+        Same,
+    ),
+    (
+        "15 many",
+        Zeros(68_608),
+        "21 80 00 0C H1 00 05",
+        102,
+        "",
+        Same,
+    ),
+];
+
+/// The bytes of a text of hex pairs and names.
+fn bytes(text: &str) -> Vec<u8> {
+    text.split_whitespace()
+        .flat_map(|word| match word {
+            "H1" => vec![1; 10],
+            "H2" => vec![2; 10],
+            "K" => (0xC0..0xD0).collect(),
+            "P5" => vec![0x50, 0x51, 0x52, 0x53, 0x54],
+            "P6" => vec![0x60, 0x61, 0x62, 0x63, 0x64, 0x65],
+            pair => vec![u8::from_str_radix(pair, 16).expect("a hex pair")],
+        })
+        .collect()
+}
+
+/// A table of one slot whose bytes are 0 but for these runs.
+fn slot(runs: &[(usize, &str)]) -> Vec<u8> {
+    let mut table = vec![0; SLOT_BYTES];
+    for (offset, text) in runs {
+        let run = bytes(text);
+        table[*offset..offset + run.len()].copy_from_slice(&run);
+    }
+    table
+}
+
+#[test]
+fn worked_examples() {
+    let mut states: HashMap<&str, Vec<u8>> = HashMap::new();
+    for &(name, from, frame, number, reply, then) in ROWS {
+        let before = match from {
+            Blank => blank(1),
+            After(row) => states[row].clone(),
+            Zeros(length) => vec![0; length],
+        };
+        let expected = match then {
+            Same => before.clone(),
+            Slot(runs) => slot(runs),
+        };
+        let mut table = before;
+        let given = call(&mut table, &bytes(frame));
+        let reply = bytes(reply);
+        assert_eq!(given, Given { number, reply }, "case {name}");
+        assert!(table == expected, "case {name}: the table");
+        states.insert(name, table);
+    }
+}

@@ -1,0 +1,189 @@
+//! The history of rights, apart from the agent.
+
+mod common;
+
+use common::{body_bytes, mixed_table, request_bytes, right, setup, OwnFields};
+use reference::ledger::{agrees, Ledger, Right, Setup, Standing};
+use reference::{read_request, ReadRequest, SLOT_BYTES};
+
+/// The ledger of requests with their statuses.
+fn ledger_of(history: &[(u8, OwnFields, u8)]) -> Ledger {
+    let frames: Vec<Vec<u8>> = history
+        .iter()
+        .map(|(kind, fields, _)| request_bytes(*kind, 0x80, &body_bytes(*kind, fields)))
+        .collect();
+    Ledger::of(frames.iter().zip(history).map(|(frame, (_, _, status))| {
+        let ReadRequest::Request(request) = read_request(frame) else {
+            panic!("{frame:02x?} is a request");
+        };
+        (request, *status)
+    }))
+}
+
+fn about(handle: u8) -> OwnFields {
+    OwnFields {
+        handle: [handle; 10],
+        ..OwnFields::default()
+    }
+}
+
+fn lending(from: u8, to: u8) -> OwnFields {
+    OwnFields {
+        new_handle: [to; 10],
+        ..about(from)
+    }
+}
+
+fn returning(from: u8, count: u16) -> OwnFields {
+    OwnFields {
+        count,
+        ..about(from)
+    }
+}
+
+/// A right that was installed with these fields.
+fn as_installed(fields: &OwnFields) -> Right {
+    Right {
+        standing: Standing::ForUse,
+        handle: fields.handle,
+        key: fields.key,
+        count: fields.count,
+        hashes: fields.hashes.clone(),
+        payload: fields.payload.clone(),
+    }
+}
+
+/// The history that leads to the mixed table.
+fn mixed_history() -> Vec<(u8, OwnFields, u8)> {
+    vec![
+        (1, setup(1, 40), 0),
+        (1, setup(2, 7), 0),
+        (1, setup(3, 4096), 0),
+        (1, setup(0, 3), 0),
+        (1, setup(4, 9), 0),
+        (2, right(1, 2, 33), 0),
+        (2, right(3, 8, 4096), 0),
+        (2, right(4, 0, 9), 0),
+        (4, lending(3, 5), 0),
+        (7, about(0), 0),
+    ]
+}
+
+#[test]
+fn setups_open_and_close() {
+    let mut history = vec![(1, setup(1, 5), 0), (1, setup(2, 6), 0)];
+    let open = |handle, length| Setup {
+        handle: [handle; 10],
+        length,
+    };
+    assert_eq!(ledger_of(&history).setups(), [open(1, 5), open(2, 6)]);
+    history.push((7, about(1), 0));
+    assert_eq!(ledger_of(&history).setups(), [open(2, 6)]);
+    history.push((2, right(2, 0, 3), 0));
+    let ledger = ledger_of(&history);
+    assert!(ledger.setups().is_empty());
+    assert_eq!(ledger.rights(), [as_installed(&right(2, 0, 3))]);
+}
+
+#[test]
+fn a_right_is_lent_returned_and_gone() {
+    let fields = right(1, 2, 7);
+    let mut history = vec![(1, setup(1, 9), 0), (2, fields.clone(), 0)];
+    let mut expected = as_installed(&fields);
+    let steps = [
+        (5, returning(1, 77), Standing::ForUse, 1, expected.count),
+        (3, lending(1, 2), Standing::Lent, 2, expected.count),
+        (5, returning(2, 40), Standing::ForUse, 2, 40),
+        (5, returning(2, 41), Standing::ForUse, 2, 40),
+        (4, lending(2, 0), Standing::Lent, 0, 40),
+        (8, OwnFields::default(), Standing::Lent, 0, 40),
+        (9, about(0), Standing::Lent, 0, 40),
+        (6, about(0), Standing::Gone, 0, 40),
+    ];
+    for (kind, fields, standing, handle, count) in steps {
+        history.push((kind, fields, 0));
+        expected.standing = standing;
+        expected.handle = [handle; 10];
+        expected.count = count;
+        assert_eq!(ledger_of(&history).rights(), [expected.clone()]);
+    }
+}
+
+#[test]
+fn any_status_but_0_tells_nothing() {
+    let whole = ledger_of(&mixed_history());
+    for (kind, fields, _) in mixed_history() {
+        for status in 1..=255 {
+            let mut history = mixed_history();
+            history.push((kind, fields.clone(), status));
+            assert_eq!(ledger_of(&history), whole, "kind {kind}, status {status}");
+        }
+    }
+}
+
+#[test]
+fn two_installations_with_equal_bytes_are_two_rights() {
+    let fields = right(1, 1, 5);
+    let once = [
+        (1, setup(1, 5), 0),
+        (2, fields.clone(), 0),
+        (6, about(1), 0),
+    ];
+    let ledger = ledger_of(&[&once[..], &once[..2]].concat());
+    let mut gone = as_installed(&fields);
+    gone.standing = Standing::Gone;
+    assert_eq!(ledger.rights(), [gone, as_installed(&fields)]);
+}
+
+#[test]
+fn the_mixed_table_agrees_with_its_history_in_any_slot_order() {
+    let ledger = ledger_of(&mixed_history());
+    let table = mixed_table();
+    assert_eq!(agrees(&ledger, &table), Ok(()));
+    let slots: Vec<&[u8]> = table.chunks(SLOT_BYTES).rev().collect();
+    assert_eq!(agrees(&ledger, &slots.concat()), Ok(()));
+    assert_eq!(agrees(&Ledger::new(), &common::blank(3)), Ok(()));
+}
+
+#[test]
+fn a_table_with_any_byte_changed_does_not_agree() {
+    let ledger = ledger_of(&mixed_history());
+    let mut table = mixed_table();
+    for index in 0..table.len() {
+        let bit = 1 << (index % 8);
+        table[index] ^= bit;
+        assert!(agrees(&ledger, &table).is_err(), "byte {index}");
+        table[index] ^= bit;
+    }
+}
+
+#[test]
+fn records_too_many_or_too_few_do_not_agree() {
+    let table = mixed_table();
+    // all steps but the setups that a later step closes
+    for step in [1, 5, 6, 7, 8, 9] {
+        let mut history = mixed_history();
+        history.remove(step);
+        assert!(agrees(&ledger_of(&history), &table).is_err(), "step {step}");
+    }
+    for slot in [0, 1, 2, 4] {
+        let mut less = table.clone();
+        less[slot * SLOT_BYTES..][..SLOT_BYTES].fill(0);
+        assert!(agrees(&ledger_of(&mixed_history()), &less).is_err());
+    }
+    let mut twice = mixed_history();
+    twice.push((1, setup(2, 7), 0));
+    assert!(agrees(&ledger_of(&twice), &table).is_err(), "one slot each");
+}
+
+#[test]
+fn a_difference_is_named() {
+    let ledger = ledger_of(&mixed_history());
+    for (offset, name) in [(11, "key"), (28, "count"), (31, "hashes"), (192, "payload")] {
+        let mut table = mixed_table();
+        table[offset] ^= 1;
+        let message = agrees(&ledger, &table).expect_err("a difference");
+        assert!(message.ends_with(name), "{message}");
+    }
+    assert!(agrees(&ledger, &[]).is_err_and(|message| message.ends_with("102")));
+}

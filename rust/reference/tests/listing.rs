@@ -1,0 +1,56 @@
+//! The listing, as `cardlist` prints it.
+
+mod common;
+
+use common::{blank, call_for, mixed_table, setup};
+use reference::listing;
+
+fn text(table: &[u8]) -> String {
+    String::from_utf8(listing(table)).expect("the listing is text")
+}
+
+#[test]
+fn document_example_is_exact() {
+    let mut table = blank(1);
+    call_for(0, &mut table, 1, &setup(1, 5));
+    assert_eq!(
+        text(&table),
+        "slot place hashes count length\n0 reserved 0 0 5\n"
+    );
+}
+
+#[test]
+fn every_place_has_its_word() {
+    assert_eq!(
+        text(&mixed_table()),
+        "slot place hashes count length\n\
+         0 enabled 2 257 33\n\
+         1 reserved 0 0 7\n\
+         2 disabled 8 259 4096\n\
+         3 empty 0 0 0\n\
+         4 enabled 0 260 9\n"
+    );
+}
+
+#[test]
+fn fifteen_slots_are_numbered_from_0_to_14() {
+    let listed = text(&blank(15));
+    let lines: Vec<&str> = listed.lines().collect();
+    assert_eq!(lines.len(), 16);
+    assert_eq!(lines[1], "0 empty 0 0 0");
+    assert_eq!(lines[10], "9 empty 0 0 0");
+    assert_eq!(lines[15], "14 empty 0 0 0");
+}
+
+#[test]
+fn refused_tables_are_one_line() {
+    for length in [0, 1, 4_287, 4_289, 64_319, 64_321, 68_608] {
+        assert_eq!(text(&vec![0; length]), "refused 102\n", "{length} bytes");
+    }
+    let mut table = blank(2);
+    table[5000] = 1;
+    assert_eq!(text(&table), "refused 103\n");
+    // 102 is tested before 103
+    table.pop();
+    assert_eq!(text(&table), "refused 102\n");
+}

@@ -1,0 +1,279 @@
+//! Properties of random calls, requests and frames. The seed is printed; set
+//! `REFERENCE_SEED` to a decimal number for another.
+
+mod common;
+
+use common::{blank, body_bytes, call, request_bytes, Asker, Rng, FILLER};
+use reference::ledger::{agrees, Ledger, Right, Standing};
+use reference::ReadRequest::{NoFrame, Refused, Request};
+use reference::{read_reply, read_request, well_formed, write_request};
+use reference::{Fields, Kind, Reply, HASH_BYTES, MAX_SLOTS, REPLY_ROOM};
+use std::collections::BTreeSet;
+
+/// A table with its history.
+struct Card {
+    table: Vec<u8>,
+    ledger: Ledger,
+}
+
+impl Card {
+    fn blank(slots: usize) -> Self {
+        Card {
+            table: blank(slots),
+            ledger: Ledger::new(),
+        }
+    }
+
+    /// Makes one call and asserts what must hold of every call. Gives the
+    /// kind bits and the status of the reply, if there is one.
+    fn call(&mut self, frame: &[u8]) -> Option<(u8, u8)> {
+        let before = self.table.clone();
+        let given = call(&mut self.table, frame);
+        let read = read_request(frame);
+        if given.number != 0 {
+            assert_eq!((given.number, read), (104, NoFrame));
+            assert!(self.table == before);
+            return None;
+        }
+        let reply = read_reply(&given.reply).expect("the reply reader accepts it");
+        let status = reply.status.number();
+        assert_eq!(reply.kind, frame[0] & 31);
+        if status != 0 {
+            assert!(self.table == before, "status {status} changes nothing");
+        }
+        match read {
+            NoFrame => panic!("a reply to no frame"),
+            Refused(refusal) => assert_eq!(reply.status, refusal),
+            Request(request) => {
+                if status == 0 {
+                    self.assert_reply_as_told(&reply, request.kind, &request.fields);
+                }
+                self.ledger.tell(&request, status);
+            }
+        }
+        assert!(well_formed(&self.table));
+        agrees(&self.ledger, &self.table).expect("the table agrees with the history");
+        Some((reply.kind, status))
+    }
+
+    /// A success tells what the history, before the request, knows.
+    fn assert_reply_as_told(&self, reply: &Reply<'_>, kind: Kind, fields: &Fields<'_>) {
+        let told = reply.fields;
+        match kind {
+            Kind::RightsRetrieval => {
+                let right = self.right_for_use(&fields.handle);
+                assert_eq!((told.key, told.count), (right.key, right.count));
+                assert_eq!(told.hashes, right.hashes);
+                assert_eq!(told.payload, right.payload);
+            }
+            Kind::RekQuery => assert_eq!(told.key, self.right_for_use(&fields.handle).key),
+            Kind::RightsInformationQuery => {
+                let right = self.right_for_use(&fields.handle);
+                assert_eq!(told.count, right.count);
+                assert_eq!(told.payload, right.payload);
+            }
+            Kind::HandleListQuery => self.assert_list_as_told(reply, fields),
+            _ => assert_eq!(told, reference::ReplyFields::default()),
+        }
+    }
+
+    fn assert_list_as_told(&self, reply: &Reply<'_>, fields: &Fields<'_>) {
+        let listed = reply.fields.handles.chunks(10);
+        let set: BTreeSet<&[u8]> = listed.clone().collect();
+        assert_eq!(set.len(), listed.len(), "each once");
+        let wanted: BTreeSet<&[u8]> = self
+            .rights_for_use()
+            .filter(|right| fields.hashes.is_empty() || share_a_hash(right, fields.hashes))
+            .map(|right| right.handle.as_slice())
+            .collect();
+        let fitting = match fields.limit {
+            0 => wanted.len(),
+            limit => wanted.len().min(usize::from(limit / 10)),
+        };
+        assert!(set.is_subset(&wanted));
+        assert_eq!(set.len(), fitting);
+        assert_eq!(reply.fields.more, fitting < wanted.len());
+    }
+
+    fn rights_for_use(&self) -> impl Iterator<Item = &Right> {
+        let rights = self.ledger.rights().iter();
+        rights.filter(|right| right.standing == Standing::ForUse)
+    }
+
+    fn right_for_use(&self, handle: &[u8; 10]) -> &Right {
+        self.rights_for_use()
+            .find(|right| right.handle == *handle)
+            .expect("a right for use under the handle")
+    }
+}
+
+fn share_a_hash(right: &Right, hashes: &[u8]) -> bool {
+    let of = |bytes: &[u8]| -> BTreeSet<Vec<u8>> {
+        bytes.chunks(HASH_BYTES).map(<[u8]>::to_vec).collect()
+    };
+    !of(&right.hashes).is_disjoint(&of(hashes))
+}
+
+/// Every status that document 01 gives to a kind; 0 stands for kinds outside
+/// 1 to 9.
+fn statuses_by_kind() -> BTreeSet<(u8, u8)> {
+    let rows: [(u8, &[u8]); 10] = [
+        (0, &[2, 3]),
+        (1, &[0, 1, 2, 5, 7]),
+        (2, &[0, 1, 2, 4, 6, 7]),
+        (3, &[0, 1, 2, 4, 5, 6]),
+        (4, &[0, 1, 2, 4, 5, 6]),
+        (5, &[0, 1, 2, 4, 6]),
+        (6, &[0, 1, 2, 4, 6]),
+        (7, &[0, 1, 2, 4, 6]),
+        (8, &[0, 2]),
+        (9, &[0, 2, 4, 6]),
+    ];
+    rows.iter()
+        .flat_map(|(kind, statuses)| statuses.iter().map(|status| (*kind, *status)))
+        .collect()
+}
+
+#[test]
+fn call_sequences_keep_tables_well_formed_and_agree_with_the_ledger() {
+    let mut rng = Rng::announced("call sequences");
+    let mut seen = BTreeSet::new();
+    let mut most_rights = 0;
+    for slots in 1..=MAX_SLOTS {
+        for _ in 0..6 {
+            let mut card = Card::blank(slots);
+            let asker = Asker::new(slots + 2);
+            for _ in 0..250 {
+                if let Some((kind, status)) = card.call(&asker.frame(&mut rng)) {
+                    let kind = if (1..=9).contains(&kind) { kind } else { 0 };
+                    seen.insert((kind, status));
+                }
+                most_rights = most_rights.max(card.rights_for_use().count());
+            }
+        }
+    }
+    assert_eq!(seen, statuses_by_kind(), "every status where it belongs");
+    assert!(most_rights >= 8, "the larger tables fill up: {most_rights}");
+}
+
+#[test]
+fn written_requests_read_back_to_their_fields() {
+    let mut rng = Rng::announced("written requests");
+    let asker = Asker::new(256);
+    for round in 0..5_000 {
+        let kind = 1 + (round % 9) as u8;
+        let own = asker.fields(&mut rng, kind);
+        let fields = own.lent();
+        let frame = request_bytes(kind, 0x80, &body_bytes(kind, &own));
+        let mut buffer = vec![FILLER; frame.len() + rng.below(4)];
+        assert_eq!(write_request(kind, &fields, &mut buffer), 0);
+        assert_eq!(buffer[..frame.len()], frame);
+        assert!(buffer[frame.len()..].iter().all(|&byte| byte == FILLER));
+        let Request(request) = read_request(&frame) else {
+            panic!("{frame:02x?} is a request");
+        };
+        assert_eq!(request.kind.number(), kind);
+        assert_eq!(request.fields, fields);
+
+        let mut short = vec![FILLER; rng.below(frame.len())];
+        assert_eq!(write_request(kind, &fields, &mut short), 201);
+        assert!(short.iter().all(|&byte| byte == FILLER));
+    }
+}
+
+#[test]
+fn frames_that_read_as_requests_are_written_to_the_same_bytes() {
+    let mut rng = Rng::announced("frames read and written");
+    let asker = Asker::new(3);
+    let (mut requests, mut ignored_verdicts) = (0, 0);
+    for _ in 0..20_000 {
+        let mut frame = asker.frame(&mut rng);
+        if rng.one_in(4) && frame.len() > 1 {
+            frame[1] = 0;
+        }
+        let Request(request) = read_request(&frame) else {
+            continue;
+        };
+        let mut written = vec![0; frame.len()];
+        let number = write_request(request.kind.number(), &request.fields, &mut written);
+        assert_eq!(number, 0);
+        if frame[1] == 0 {
+            assert!(request.kind >= Kind::HandleListQuery);
+            ignored_verdicts += 1;
+            frame[1] = 0x80;
+        }
+        assert_eq!(written, frame);
+        requests += 1;
+    }
+    assert!(requests > 5_000, "{requests} requests");
+    assert!(ignored_verdicts > 100, "{ignored_verdicts} verdicts of 0");
+}
+
+#[test]
+fn refused_calls_change_nothing() {
+    let mut rng = Rng::announced("refused calls");
+    let asker = Asker::new(3);
+    for _ in 0..2_000 {
+        let length = rng.pick(&[0, 1, 4287, 4288, 4289, 8576]);
+        let mut table = match rng.below(3) {
+            0 => rng.bytes(length),
+            _ => vec![0; length],
+        };
+        if rng.one_in(3) && length > 0 {
+            table[rng.below(length)] = 1;
+        }
+        let room = rng.pick(&[0, REPLY_ROOM - 1, REPLY_ROOM, REPLY_ROOM, REPLY_ROOM]);
+        let mut frame = asker.frame(&mut rng);
+        if rng.one_in(3) {
+            frame.push(0);
+        }
+
+        let expected = if room < REPLY_ROOM {
+            101
+        } else if length != 4288 && length != 8576 {
+            102
+        } else if table.iter().any(|&byte| byte != 0) {
+            103 // one byte of an empty slot, or random ones
+        } else if read_request(&frame) == NoFrame {
+            104
+        } else {
+            0
+        };
+        let before = table.clone();
+        let mut reply = vec![FILLER; room];
+        let number = reference::call(&mut table, &frame, &mut reply);
+        assert_eq!(number, expected);
+        if number != 0 {
+            assert!(table == before);
+            assert!(reply.iter().all(|&byte| byte == FILLER));
+        }
+    }
+}
+
+#[test]
+fn readers_take_any_bytes() {
+    let mut rng = Rng::announced("any bytes");
+    let mut accepted = 0;
+    for _ in 0..50_000 {
+        let length = rng.below(48);
+        let mut frame = rng.bytes(length);
+        if length >= 4 && !rng.one_in(8) {
+            frame[0] = 0x20 | frame[0] & 15;
+            frame[1] = rng.pick(&[0, 0, 1, 8, 9, 0x80]);
+            frame[2] = 0;
+            frame[3] = (length - 4) as u8;
+        }
+        let whole = length >= 4 && length - 4 == usize::from(frame[2]) << 8 | usize::from(frame[3]);
+        assert_eq!(read_request(&frame) == NoFrame, !whole);
+        match read_reply(&frame) {
+            Ok(reply) => {
+                assert!(whole && reply.kind == frame[0] & 31);
+                assert_eq!(reply.status.number(), frame[1]);
+                assert!(frame[1] == 0 || length == 4);
+                accepted += 1;
+            }
+            Err(number) => assert_eq!(number, 203),
+        }
+    }
+    assert!(accepted > 500, "{accepted} replies");
+}

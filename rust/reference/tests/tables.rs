@@ -1,0 +1,235 @@
+//! What a well-formed table is, and the order of the numbers 101 to 104.
+
+mod common;
+
+use common::{blank, call, call_for, mixed_table, setup, OwnFields, FILLER};
+use reference::slot::{self, Place};
+use reference::{listing, table, well_formed, HASH_BYTES, MAX_SLOTS, REPLY_ROOM, SLOT_BYTES};
+
+/// The slots of the mixed table.
+const ENABLED: usize = 0;
+const RESERVED: usize = SLOT_BYTES;
+const DISABLED: usize = 2 * SLOT_BYTES;
+const EMPTY: usize = 3 * SLOT_BYTES;
+
+/// Asserts that a table is refused everywhere, and unchanged.
+fn assert_refused(number: u16, before: &[u8], what: &str) {
+    assert!(!well_formed(before), "{what}");
+    assert_eq!(table::check(before), Err(number), "{what}");
+    assert_eq!(listing(before), format!("refused {number}\n").into_bytes());
+    let mut after = before.to_vec();
+    let frame = [0x28, 0x80, 0, 3, 0, 0, 0];
+    assert_eq!(call(&mut after, &frame).number, number, "{what}");
+    assert!(after == before, "{what}");
+}
+
+#[test]
+fn lengths() {
+    for slots in 1..=MAX_SLOTS {
+        assert!(well_formed(&blank(slots)));
+        assert_refused(102, &vec![0; slots * SLOT_BYTES - 1], "a byte less");
+        assert_refused(102, &vec![0; slots * SLOT_BYTES + 1], "a byte more");
+    }
+    assert_refused(102, &[], "no slot");
+    assert_refused(102, &blank(MAX_SLOTS + 1), "16 slots");
+}
+
+#[test]
+fn accessors_read_the_mixed_table() {
+    let bytes = mixed_table();
+    let slots = table::slots(&bytes);
+    assert_eq!(slots.len(), 5);
+    let places: Vec<Place> = slots.iter().map(slot::place).collect();
+    use Place::{Disabled, Empty, Enabled, Reserved};
+    assert_eq!(places, [Enabled, Reserved, Disabled, Empty, Enabled]);
+
+    assert_eq!(slot::handle(&slots[0]), [1; 10]);
+    assert_eq!(slot::key(&slots[0]), [0x61; 16]);
+    assert_eq!(slot::count(&slots[0]), 0x101);
+    assert_eq!(slot::length(&slots[0]), 33);
+    assert_eq!(slot::hash_count(&slots[0]), 2);
+    assert_eq!(slot::hashes(&slots[0]), [[1; 20], [2; 20]].as_flattened());
+    assert_eq!(slot::payload(&slots[0]).len(), 33);
+
+    assert_eq!(slot::length(&slots[1]), 7);
+    assert!(slot::payload(&slots[1]).is_empty());
+
+    assert_eq!(slot::handle(&slots[2]), [5; 10]);
+    assert_eq!(slot::hashes(&slots[2]).len(), 160);
+    assert_eq!(slot::payload(&slots[2]).len(), 4096);
+    assert!(slots[3].iter().all(|&byte| byte == 0));
+}
+
+/// Each row sets some bytes of the mixed table and so breaks one rule.
+#[test]
+fn each_rule_alone_is_103() {
+    let rows: &[(&str, &[(usize, u8)])] = &[
+        ("low spare bit", &[(ENABLED, 0x89)]),
+        ("high spare bit", &[(ENABLED, 0x8A)]),
+        ("byte 191 of an enabled slot", &[(ENABLED + 191, 1)]),
+        ("byte 191 of a reserved slot", &[(RESERVED + 191, 0x80)]),
+        ("hash count 9", &[(DISABLED, 0xE4)]),
+        ("hash count 15", &[(DISABLED, 0xFC)]),
+        ("first byte after the hashes", &[(ENABLED + 71, 1)]),
+        ("last byte after the hashes", &[(ENABLED + 190, 1)]),
+        ("hashes beyond a lowered count", &[(DISABLED, 0xDC)]),
+        ("first byte after the payload", &[(ENABLED + 192 + 33, 1)]),
+        ("last byte after the payload", &[(ENABLED + 4287, 1)]),
+        (
+            "payload beyond a lowered length",
+            &[(DISABLED + 29, 0x0F), (DISABLED + 30, 0xFF)],
+        ),
+        ("empty with a spare bit", &[(EMPTY, 1)]),
+        ("empty with a hash count", &[(EMPTY, 4)]),
+        ("empty with a handle", &[(EMPTY + 10, 1)]),
+        ("empty with a key", &[(EMPTY + 11, 1)]),
+        ("empty with a count", &[(EMPTY + 28, 1)]),
+        ("empty with a length", &[(EMPTY + 30, 1)]),
+        ("empty with a hash", &[(EMPTY + 31, 1)]),
+        ("empty with a payload", &[(EMPTY + 192, 1)]),
+        ("a right in an empty place", &[(ENABLED, 0x08)]),
+        ("reserved, length 0", &[(RESERVED + 30, 0)]),
+        (
+            "reserved, length 4,097",
+            &[(RESERVED + 29, 0x10), (RESERVED + 30, 1)],
+        ),
+        ("reserved with a hash count", &[(RESERVED, 0x44)]),
+        ("reserved with a key", &[(RESERVED + 26, 1)]),
+        ("reserved with a count", &[(RESERVED + 27, 1)]),
+        ("reserved with a hash", &[(RESERVED + 31, 1)]),
+        ("reserved, payload in the room", &[(RESERVED + 192, 1)]),
+        (
+            "reserved, payload past the room",
+            &[(RESERVED + 192 + 7, 1)],
+        ),
+        ("disabled, length 4,097", &[(DISABLED + 30, 1)]),
+        (
+            "disabled, length 65,535",
+            &[(DISABLED + 29, 0xFF), (DISABLED + 30, 0xFF)],
+        ),
+    ];
+    for (what, changes) in rows {
+        let mut table = mixed_table();
+        assert!(well_formed(&table));
+        for &(offset, byte) in *changes {
+            assert_ne!(table[offset], byte, "{what}");
+            table[offset] = byte;
+        }
+        assert_refused(103, &table, what);
+    }
+}
+
+#[test]
+fn length_0_is_103_for_a_right() {
+    for place in [0x80, 0xC0] {
+        let mut table = blank(1);
+        table[0] = place;
+        table[1] = 1;
+        assert_refused(103, &table, "length 0");
+        table[30] = 1;
+        assert!(well_formed(&table), "zero key, count, hashes and payload");
+    }
+}
+
+#[test]
+fn equal_handles_are_103_in_any_places() {
+    for first in [0x40, 0x80, 0xC0] {
+        for second in [0x40, 0x80, 0xC0] {
+            for handle in [0, 7] {
+                let mut table = blank(3);
+                for (at, place) in [(0, first), (2 * SLOT_BYTES, second)] {
+                    table[at] = place;
+                    table[at + 1..at + 11].fill(handle);
+                    table[at + 30] = 1;
+                }
+                assert_refused(103, &table, "equal handles");
+                table[10] = 9;
+                assert!(well_formed(&table), "the last byte tells handles apart");
+            }
+        }
+    }
+}
+
+#[test]
+fn equal_hashes_and_8_of_them_are_well_formed() {
+    let mut table = blank(1);
+    table[0] = 0x80 | 8 << 2;
+    table[30] = 1;
+    table[31..31 + 8 * HASH_BYTES].fill(3);
+    assert!(well_formed(&table));
+}
+
+/// Each call has the faults of all later numbers as well.
+#[test]
+fn numbers_are_tested_in_order() {
+    let mut ill_formed = blank(1);
+    ill_formed[191] = 1;
+    let part = ill_formed[..SLOT_BYTES - 1].to_vec();
+    let rows: [(u16, &[u8], usize); 4] = [
+        (101, &part, REPLY_ROOM - 1),
+        (102, &part, REPLY_ROOM),
+        (103, &ill_formed, REPLY_ROOM),
+        (104, &blank(1), REPLY_ROOM),
+    ];
+    for (number, before, room) in rows {
+        let mut table = before.to_vec();
+        let mut reply = vec![FILLER; room];
+        assert_eq!(
+            reference::call(&mut table, &[0x21, 0x80, 0], &mut reply),
+            number
+        );
+        assert!(table == before);
+        assert_eq!(reply, vec![FILLER; room]);
+    }
+}
+
+#[test]
+fn a_buffer_of_4279_bytes_takes_the_longest_reply() {
+    let mut table = mixed_table();
+    let enable = OwnFields {
+        handle: [5; 10],
+        ..OwnFields::default()
+    };
+    call_for(0, &mut table, 5, &enable);
+    let frame = [&[0x23, 0x80, 0, 20][..], &[5; 10], &[6; 10]].concat();
+    let mut reply = vec![FILLER; 4279];
+    assert_eq!(
+        reference::call(&mut table.clone(), &frame, &mut reply[1..]),
+        101
+    );
+    assert_eq!(reply, vec![FILLER; 4279]);
+    assert_eq!(reference::call(&mut table, &frame, &mut reply), 0);
+    assert_eq!(reply[..4], [0x23, 0, 0x10, 0xB3]);
+    assert_eq!(4 + 0x10B3, 4279);
+    assert_eq!(reply[4278], 0xFF);
+}
+
+#[test]
+fn a_frame_that_is_not_4_plus_its_body_length_is_104() {
+    let right = [&[0x21, 0x80, 0, 12][..], &[1; 10], &[0, 5]].concat();
+    for length in 0..right.len() {
+        assert_eq!(call(&mut blank(1), &right[..length]).number, 104);
+    }
+    let longer = [&right[..], &[0]].concat();
+    assert_eq!(call(&mut blank(1), &longer).number, 104);
+    assert_eq!(call(&mut blank(1), &right).number, 0);
+}
+
+#[test]
+fn a_cleared_slot_may_be_reserved_again_at_once() {
+    let mut table = mixed_table();
+    let handle = |byte| OwnFields {
+        handle: [byte; 10],
+        ..OwnFields::default()
+    };
+    call_for(0, &mut table, 6, &handle(5));
+    call_for(0, &mut table, 1, &setup(5, 1));
+    let slots = table::slots(&table);
+    assert_eq!(
+        slot::place(&slots[2]),
+        Place::Reserved,
+        "the lowest empty slot"
+    );
+    assert_eq!(slot::place(&slots[3]), Place::Empty);
+    assert!(well_formed(&table), "nothing of the removed right is left");
+}
