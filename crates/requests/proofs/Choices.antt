@@ -1,0 +1,39 @@
+-- Tests and what the branches say of them: the sets for a `return` of a function whose contract goes by tests, and a number that is no kind.
+-- Assumes nothing.
+use Prim.Native.Nat.{ℕ, zero, suc, _-_, _≤_, _<_}
+use mathlib.Core.Path.{_≡_, refl}
+use mathlib.Core.List.{List, [], _∷_}
+use mathlib.Core.Bool.{true, false}
+use mathlib.Core.Option.{none}
+use native.Mathlib.Omega.{arith}
+use lib.Dec.{ltb}
+use borrow.Author.Tests.{eq-eqb, ne-eqb, lt-ltb, le-ltb, le-leb, lt-leb}
+use Rattle.profile.specs.Frame.{kindOf}
+
+pub ruleset tests = (eq-eqb, ne-eqb, lt-ltb, le-ltb, le-leb, lt-leb)
+
+-- something is left behind s, or nothing
+pub left-none : (n s : ℕ) → n ≤ s → ltb 0 (n - s) ≡ false
+left-none n s h = le-ltb 0 (n - s) (omega arith)
+
+pub left-some : (n s : ℕ) → s < n → ltb 0 (n - s) ≡ true
+left-some n s h = lt-ltb 0 (n - s) (omega arith)
+
+-- what the last arm of a `match` on a number says: none of these, the last one first
+abbrev pub NoneOf : List ℕ → ℕ → Type 0
+NoneOf [] k = Unit {0}
+NoneOf (j ∷ js) k = NoneOf js k × (k ≡ j → ⊥)
+
+-- "kind not 1 to 9"
+pub no-kind : (k : ℕ) → NoneOf (9 ∷ 8 ∷ 7 ∷ 6 ∷ 5 ∷ 4 ∷ 3 ∷ 2 ∷ 1 ∷ []) k → kindOf k ≡ none
+no-kind zero h = refl
+no-kind (suc zero) h = absurd (h .0 .0 .0 .0 .0 .0 .0 .0 .1 refl)
+no-kind (suc (suc zero)) h = absurd (h .0 .0 .0 .0 .0 .0 .0 .1 refl)
+no-kind (suc (suc (suc zero))) h = absurd (h .0 .0 .0 .0 .0 .0 .1 refl)
+no-kind (suc (suc (suc (suc zero)))) h = absurd (h .0 .0 .0 .0 .0 .1 refl)
+no-kind (suc (suc (suc (suc (suc zero))))) h = absurd (h .0 .0 .0 .0 .1 refl)
+no-kind (suc (suc (suc (suc (suc (suc zero)))))) h = absurd (h .0 .0 .0 .1 refl)
+no-kind (suc (suc (suc (suc (suc (suc (suc zero))))))) h = absurd (h .0 .0 .1 refl)
+no-kind (suc (suc (suc (suc (suc (suc (suc (suc zero)))))))) h = absurd (h .0 .1 refl)
+no-kind (suc (suc (suc (suc (suc (suc (suc (suc (suc zero))))))))) h = absurd (h .1 refl)
+no-kind (suc (suc (suc (suc (suc (suc (suc (suc (suc (suc k)))))))))) h = refl
