@@ -1,5 +1,8 @@
+-- the writer
 pub mod Frames
 pub mod Growing
+pub mod WellSlots
+-- the reader
 pub mod Shapes
 pub mod Tellings
 pub mod Meanings

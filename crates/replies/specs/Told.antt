@@ -6,6 +6,7 @@ use mathlib.Core.Bool.{_&&_, not}
 use lib.ListN.{length, drop, replicate}
 use lib.Dec.{eqb, ltb}
 use Rattle.profile.specs.Bytes.{Bytes, if_then_else_, byte, part, word, pieces}
+use Rattle.profile.specs.Slot.{hashSize}
 use Rattle.profile.specs.Frame.{Kind, Setup, Install, Retrieve, Query, Enable, Remove, Cancel, List', Info, kindOf, lastStatus, isFrame, versionHolds, kindNumber, body, statusIn}
 use Rattle.profile.specs.Agent.{nothing, theRight, theKey, handles, counted}
 use Rattle.profile.specs.Device.{none?, shaped, Reply, malformed, failed, gave, readReply}
@@ -34,7 +35,7 @@ abbrev pub meant : Bytes → Bytes → Answer → Reply
 meant f key Malformed = malformed
 meant f key (Failed kind status) = failed kind status
 meant f key (Nothing kind) = gave kind nothing
-meant f key (Right count n hashes at size) = gave 3 (theRight (record { key = key; count = count; hashes = pieces 20 n (drop hashes f); payload = part at size f }))
+meant f key (Right count n hashes at size) = gave 3 (theRight (record { key = key; count = count; hashes = pieces hashSize n (drop hashes f); payload = part at size f }))
 meant f key Key = gave 4 (theKey key)
 meant f key (Handles more n at) = gave 8 (handles more (pieces 10 n (drop at f)))
 meant f key (Counted count at size) = gave 9 (counted count (part at size f))
@@ -54,7 +55,7 @@ abbrev pub hashesIn : Bytes → ℕ
 hashesIn f = byte 22 f / 16
 
 abbrev pub payloadFrom : Bytes → ℕ
-payloadFrom f = 23 + 20 * hashesIn f
+payloadFrom f = 23 + hashSize * hashesIn f
 
 unfoldable pub rightIn : Bytes → Told
 rightIn f = record { answer = Right (word 20 f) (hashesIn f) 23 (payloadFrom f) (length f - payloadFrom f); key = part 4 16 f }

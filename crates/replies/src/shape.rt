@@ -33,7 +33,7 @@ pub fn is_reply(f: &[u8]) -> bool
 pub fn no_body(f: &[u8]) -> bool
     ensures { λ r. ⌜ r ≡ none? (body (now (f .entry))) ⌝ }
 {
-    f.len() <= 4
+    4 >= f.len()
 }
 
 // "kind 3: zero bits 0, at most 8 hashes, payload 1 to 4,096".
