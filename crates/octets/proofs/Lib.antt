@@ -1,3 +1,4 @@
+-- Laws that the functions' proofs cite, and those that callers may.
 pub mod Fields
 pub mod Parts
 pub mod Copying

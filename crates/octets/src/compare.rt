@@ -55,12 +55,12 @@ pub fn any_hash_at(q: [[u8; 20]; 8], n: usize, s: &[u8], at: usize) -> bool
     requires { ⌜ (n ≤ 8) × (at + 20 ≤ length (now s)) ⌝ }
     ensures { λ r. ⌜ r ≡ any (λ x. same x (part at 20 (now (s .entry)))) (take n q) ⌝ }
 {
-    let mut i = 0;
-    while i < n {
-        if same_hash_at(q[i], s, at) {
+    let mut k = 0;
+    while k < n {
+        if same_hash_at(q[k], s, at) {
             return true;
         }
-        i += 1;
+        k += 1;
     }
     false
 }

@@ -1,4 +1,4 @@
-// Bytes written into a lent buffer, "with the rest as found".
+// Bytes written into a lent buffer, which leave "the rest of its buffer as found".
 ghost use mathlib.Core.Path.{_≡_};
 ghost use mathlib.Core.List.{_∷_};
 ghost use Prim.Native.Nat.{_+_, _≤_, _<_};

@@ -5,7 +5,7 @@ ghost use lib.ListN.{length};
 ghost use Rattle.profile.specs.Bytes.{part, allZero};
 
 // Every byte is read, with no exit between, so that the loop becomes vector code.
-pub fn zero_block(s: &[u8]) -> bool
+fn zero_block(s: &[u8]) -> bool
     ensures { λ r. ⌜ r ≡ allZero (now (s .entry)) ⌝ }
 {
     let mut acc: u8 = 0;
@@ -21,15 +21,15 @@ pub fn zero_block(s: &[u8]) -> bool
 pub fn all_zero(s: &[u8]) -> bool
     ensures { λ r. ⌜ r ≡ allZero (now (s .entry)) ⌝ }
 {
-    let mut i = 0;
-    while 256 <= s.len() - i {
-        let e = i + 256;
-        if !zero_block(&s[i..e]) {
+    let mut at = 0;
+    while 256 <= s.len() - at {
+        let e = at + 256;
+        if !zero_block(&s[at..e]) {
             return false;
         }
-        i = e;
+        at = e;
     }
-    zero_block(&s[i..])
+    zero_block(&s[at..])
 }
 
 // "hash bytes beyond the count and payload bytes beyond the length are 0": a part of a slot.

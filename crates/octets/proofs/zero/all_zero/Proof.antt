@@ -1,4 +1,4 @@
--- `octets::zero::all_zero` meets its contract. The invariant: what is left from i on decides the answer. Assumes nothing.
+-- `octets::zero::all_zero` meets its contract. The invariant: what is left behind a place decides the answer. Assumes nothing.
 use denote.Ref.{now}
 use mathlib.Core.Path.{_≡_, refl, sym, _∙_}
 use Prim.Native.Nat.{_+_, _≤_, _-_}
@@ -13,10 +13,10 @@ use Rattle.octets.proofs.zero.all_zero.Tie as tie
 use Rattle.octets.proofs.zero.zero_block.Reads as zero-block-reads
 
 abbrev Inv-loop : tie.InvT-loop
-Inv-loop s i₀ i = (i ≤ length s) × (allZero s ≡ allZero (drop i s))
+Inv-loop s at₀ at = (at ≤ length s) × (allZero s ≡ allZero (drop at s))
 
 abbrev μ-loop : tie.MeasureT-loop
-μ-loop s i₀ i = length s - i
+μ-loop s at₀ at = length s - at
 
 loop-holds : tie.Need-loop-holds Inv-loop μ-loop
 loop-holds c = (omega arith, refl)
@@ -43,8 +43,8 @@ returns : tie.Need-returns Inv-loop μ-loop
 returns c =
     let l = c .before .before .before .before in
     let s = now (l .before .before .args .s) in
-    let i = l .loop .i in
-    sym (l .loop .inv .1 ∙ zero-stop s i (i + 256) (sym (c .before .zero-block .ensures) ∙ not-true (c .before .zero-block .result) (c .if1 .taken)))
+    let at = l .loop .at in
+    sym (l .loop .inv .1 ∙ zero-stop s at (at + 256) (sym (c .before .zero-block .ensures) ∙ not-true (c .before .zero-block .result) (c .if1 .taken)))
 
 loop-less : tie.Need-loop-less Inv-loop μ-loop
 loop-less c = search needs
@@ -53,8 +53,8 @@ loop-again : tie.Need-loop-again Inv-loop μ-loop
 loop-again c =
     let l = c .before .before .before .before in
     let s = now (l .before .before .args .s) in
-    let i = l .loop .i in
-    (omega arith, l .loop .inv .1 ∙ zero-pass s i (i + 256) (omega arith) (sym (c .before .zero-block .ensures) ∙ not-false (c .before .zero-block .result) (c .if1 .left)))
+    let at = l .loop .at in
+    (omega arith, l .loop .inv .1 ∙ zero-pass s at (at + 256) (omega arith) (sym (c .before .zero-block .ensures) ∙ not-false (c .before .zero-block .result) (c .if1 .left)))
 
 sub-zero-block-2 : tie.Need-sub-zero-block-2 Inv-loop μ-loop
 sub-zero-block-2 c = search needs
@@ -71,7 +71,7 @@ zero-block-requires-2 c κs = search needs
 returns-2 : tie.Need-returns-2 Inv-loop μ-loop
 returns-2 c =
     let l = c .before .before .before in
-    c .zero-block2 .ensures ∙ zero-last (now (l .before .before .args .s)) (l .loop .i) ∙ sym (l .loop .inv .1)
+    c .zero-block2 .ensures ∙ zero-last (now (l .before .before .args .s)) (l .loop .at) ∙ sym (l .loop .inv .1)
 
 pub all-zero-spec : {M : Type 1} → statement M
 all-zero-spec =
