@@ -1,0 +1,63 @@
+-- The slots of a table as parts of its bytes, one after another. Assumes nothing.
+use Prim.Native.Nat.{ℕ, zero, suc, _+_, _-_, _*_, _≤_, _<_}
+use mathlib.Core.Path.{_≡_, refl, ap, _∙_}
+use mathlib.Core.List.{[], _∷_}
+use native.Mathlib.Omega.{arith}
+use native.Mathlib.Nat.{mul-zero, not-suc-le-zero, le-of-suc-le-suc}
+use native.Mathlib.Numerals.{add-one}
+use lib.ListN.{length, getD, take, drop, length-map, List·getD-map, drop-of-length-le}
+use lib.Seq.{drop-cons, drop-drop}
+use Rattle.profile.specs.Bytes.{Bytes, part, pieces}
+use Rattle.profile.specs.Table.{unpack, slotCount, slotBytes, slotsOf}
+use Rattle.profile.proofs.Strings.{length-pieces, length-part}
+
+-- ---- pieces of k bytes
+module _ (k : ℕ) where
+  pub getD-pieces : (n i : ℕ) (s : Bytes) → i < n → getD (pieces k n s) i [] ≡ part (k * i) k s
+  getD-pieces zero i s h = absurd (not-suc-le-zero h)
+  getD-pieces (suc n) zero s h = rw (mul-zero k)
+  getD-pieces (suc n) (suc i) s h = getD-pieces n i (drop k s) (le-of-suc-le-suc h) ∙ ap (take k) (drop-drop (k * i) k s ∙ ap (λ (m : ℕ). drop m s) e)
+    where
+      e : k + k * i ≡ k * suc i
+      e = omega arith
+
+  -- what is left from piece i on: it, and what is left behind it
+  pub pieces-step : (n i : ℕ) (s : Bytes) → i < n → drop i (pieces k n s) ≡ part (k * i) k s ∷ drop (i + 1) (pieces k n s)
+  pieces-step n i s h = rw (add-one, ← getD-pieces n i s h) (drop-cons (pieces k n s) i [] (rw (length-pieces k n s) h))
+
+-- ---- slots
+module _ (t : Bytes) where
+  pub length-slots : length (slotsOf t) ≡ slotCount t
+  unfolding slotsOf slotBytes
+  length-slots = length-map (slotBytes t) unpack ∙ length-pieces 4288 (slotCount t) t
+
+  pub getD-slots : (i : ℕ) → i < slotCount t → getD (slotBytes t) i [] ≡ part (4288 * i) 4288 t
+  unfolding slotBytes
+  getD-slots i h = getD-pieces 4288 (slotCount t) i t h
+
+  pub unpacked-at : (i : ℕ) → i < slotCount t → getD (slotsOf t) i (unpack []) ≡ unpack (part (4288 * i) 4288 t)
+  unfolding slotsOf
+  unpacked-at i h = List·getD-map unpack (slotBytes t) i [] ∙ ap unpack (getD-slots i h)
+
+  pub length-slot : (i : ℕ) → i < slotCount t → length (part (4288 * i) 4288 t) ≡ 4288
+  length-slot i h = length-part (4288 * i) 4288 t (omega arith)
+
+  -- what is lent of the table for slot i
+  pub slot-lent : (i : ℕ) → i < slotCount t → (take (4288 * i + 4288 - 4288 * i) (drop (4288 * i) t) ≡ part (4288 * i) 4288 t) × (length (take (4288 * i + 4288 - 4288 * i) (drop (4288 * i) t)) ≡ 4288)
+  slot-lent i h = let e : 4288 * i + 4288 - 4288 * i ≡ 4288 = omega arith in rw e (refl, length-slot i h)
+
+  -- the bytes of the slots from i on, and the slots unpacked
+  pub bytes-step : (i : ℕ) → i < slotCount t → drop i (slotBytes t) ≡ part (4288 * i) 4288 t ∷ drop (i + 1) (slotBytes t)
+  unfolding slotBytes
+  bytes-step i h = pieces-step 4288 (slotCount t) i t h
+
+  pub slots-step : (i : ℕ) → i < slotCount t → drop i (slotsOf t) ≡ unpack (part (4288 * i) 4288 t) ∷ drop (i + 1) (slotsOf t)
+  slots-step i h = rw (add-one, ← unpacked-at i h) (drop-cons (slotsOf t) i (unpack []) (rw length-slots h))
+
+  -- behind the last
+  pub bytes-end : (i : ℕ) → slotCount t ≤ i → drop i (slotBytes t) ≡ []
+  unfolding slotBytes
+  bytes-end i h = drop-of-length-le (pieces 4288 (slotCount t) t) {i = i} (rw (length-pieces 4288 (slotCount t) t) h)
+
+  pub slots-end : (i : ℕ) → slotCount t ≤ i → drop i (slotsOf t) ≡ []
+  slots-end i h = drop-of-length-le (slotsOf t) {i = i} (rw length-slots h)

@@ -1,0 +1,4 @@
+pub mod Places
+pub mod Heads
+pub mod LookUp
+pub mod Again

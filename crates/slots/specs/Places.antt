@@ -1,0 +1,11 @@
+-- The places of document 01, "Slots", by their numbers.
+use Prim.Native.Nat.{ℕ}
+use Rattle.slots.specs.declared.place.Place.{Place}
+use Rattle.slots.specs.declared.place.Place.the-variants.{Empty, Reserved, Enabled, Disabled}
+
+-- "0 empty, 1 reserved, 2 enabled, 3 disabled"
+abbrev pub placeNumber : Place → ℕ
+placeNumber Empty = 0
+placeNumber Reserved = 1
+placeNumber Enabled = 2
+placeNumber Disabled = 3
