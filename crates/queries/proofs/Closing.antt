@@ -1,6 +1,6 @@
 -- The list of kind 8 closed by its head: the agent's reply. Assumes nothing.
-use Prim.Native.Nat.{ℕ, _+_, _*_, _/_, _≤_, _<_, min}
-use mathlib.Core.Path.{_≡_, refl, sym, ap, _∙_}
+use Prim.Native.Nat.{ℕ, _≤_, _<_}
+use mathlib.Core.Path.{_≡_, refl, sym, _∙_}
 use mathlib.Core.List.{List}
 use mathlib.Core.Bool.{Bool, true, false}
 use native.Mathlib.Nat.{min-eq-left, min-eq-right}
@@ -9,10 +9,10 @@ use lib.Dec.{eqb, ltb}
 use lib.ListN.{length, take}
 use lib.Seq.{take-all, take-length, length-take-le}
 use borrow.Author.Tests.{lt-ltb, le-ltb}
-use Rattle.profile.specs.Bytes.{Bytes, if_then_else_, over, Each}
+use Rattle.profile.specs.Bytes.{Bytes, over}
 use Rattle.profile.specs.Table.{slotsOf}
 use Rattle.profile.specs.Request.{list}
-use Rattle.profile.specs.Agent.{listed, fitting, firstOf, act, replyFrame}
+use Rattle.profile.specs.Agent.{listed, fitting, firstOf, act}
 use Rattle.replies.specs.Listed.{holding, listStart}
 use Rattle.replies.proofs.Growing.{list-closed}
 use Rattle.replies.proofs.Frames.{done-frame}

@@ -1,20 +1,19 @@
 -- Kind 9: the agent's reply, for each answer of the look-up. Assumes nothing.
 use Prim.Native.Nat.{ℕ, _*_, _<_, _≤_}
-use mathlib.Core.Path.{_≡_, refl, sym, ap, _∙_}
+use mathlib.Core.Path.{_≡_, refl, sym, _∙_}
 use mathlib.Core.List.{[]}
-use lib.ListN.{length}
 use Rattle.profile.specs.Bytes.{Bytes, part, word, over}
 use Rattle.profile.specs.Table.{rightOf, slotCount, slotsOf}
 use Rattle.profile.specs.Frame.{Refusal, notFound, unexpected, twoRecords, code, frame}
 use Rattle.profile.specs.Request.{info}
-use Rattle.profile.specs.Agent.{Answer, deny, done, infoAt, onRecord, act, lowestEmpty, replyFrame, writeGiven}
+use Rattle.profile.specs.Agent.{Answer, deny, done, infoAt, onRecord, act, replyFrame, writeGiven}
 use Rattle.replies.specs.Written.{infoOf}
 use Rattle.replies.proofs.Frames.{deny-frame, done-frame}
 use Rattle.slots.specs.declared.place.Place.{Place}
 use Rattle.slots.specs.declared.place.Place.the-variants.{Empty, Reserved, Enabled, Disabled}
 use Rattle.slots.specs.declared.lookup.Lookup.the-variants.{Absent, Two, At}
 use Rattle.slots.specs.LookUp.{lookUp}
-use Rattle.slots.proofs.Records.{entryOf, RecordAt, RecordFits, absent-denied, two-denied, record-at, record-fits}
+use Rattle.slots.proofs.Records.{entryOf, absent-denied, two-denied, record-at, record-fits}
 use Rattle.queries.specs.Query.{Ready, replyTo}
 
 module _ (t b h : Bytes) where

@@ -1,14 +1,14 @@
 -- The list of kind 8 over some slots: one slot more, how long it is, how long its handles are. Assumes nothing.
 use Prim.Native.Nat.{ℕ, zero, suc, _+_, _*_, _≤_, _<_}
-use mathlib.Core.Path.{_≡_, refl, sym, ap, _∙_}
+use mathlib.Core.Path.{_≡_, sym, ap}
 use mathlib.Core.List.{List, [], _∷_, _++_, append-nil, append-assoc}
-use mathlib.Core.Bool.{Bool, true, false}
+use mathlib.Core.Bool.{true}
 use native.Mathlib.Numerals.{add-one}
 use native.Mathlib.Omega.{arith}
 use lib.ListN.{length, getD, take, length-append}
 use lib.Seq.{take-suc, take-all}
-use Rattle.profile.specs.Bytes.{Bytes, if_then_else_, part, Each}
-use Rattle.profile.specs.Slot.{Right, reserved, enabled, disabled, Slot, empty, taken, SlotFits, TableFits}
+use Rattle.profile.specs.Bytes.{Bytes, part, Each}
+use Rattle.profile.specs.Slot.{reserved, enabled, disabled, Slot, empty, taken, SlotFits, TableFits}
 use Rattle.profile.specs.Table.{unpack, slotCount, slotsOf, wholeSlots, wellTable}
 use Rattle.profile.specs.Agent.{asked, listedSlot, listed}
 use Rattle.profile.proofs.Logic.{if-both}

@@ -8,7 +8,7 @@ use Rattle.profile.specs.Bytes.{Bytes}
 use Rattle.profile.specs.Slot.{Entry, reserved, enabled, disabled}
 use Rattle.profile.specs.Table.{slotsOf, wholeSlots, wellTable}
 use Rattle.profile.specs.Request.{list, info}
-use Rattle.profile.specs.Agent.{Answer, Found, absent, one, find, times, whenFound, infoAt, onRecord, act, tableAfter}
+use Rattle.profile.specs.Agent.{Answer, Found, absent, one, find, times, whenFound, infoAt, act, tableAfter}
 use Rattle.profile.proofs.Logic.{if-both}
 use Rattle.profile.proofs.Strings.{Bytes256}
 use Rattle.profile.proofs.Tables.{table-slots}

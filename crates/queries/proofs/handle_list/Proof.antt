@@ -1,9 +1,7 @@
 -- `queries::handle_list` meets its contract: the handles put, and the head in front of them. Assumes nothing.
 use denote.Ref.{now}
-use Prim.Native.Nat.{_≤_}
-use mathlib.Core.Path.{_≡_}
 use native.Mathlib.Omega.{arith}
-use lib.ListN.{drop, take}
+use lib.ListN.{drop}
 use Rattle.profile.specs.Bytes.{pieces}
 use Rattle.queries.proofs.Closing.{found-15, closed-whole, closed-short}
 use borrow.Author.Needs.{needs}

@@ -1,7 +1,6 @@
 -- `queries::handles::put_handles` meets its contract. The invariant: the list over the slots passed is counted, and its first handles are in the reply. Assumes nothing.
 use denote.Ref.{now}
 use Prim.Native.Nat.{_≤_, _-_}
-use mathlib.Core.Path.{_≡_, sym, ap, _∙_}
 use mathlib.Core.Logic.{⊎-elim}
 use native.Mathlib.Omega.{arith}
 use lib.ListN.{take}
