@@ -1,0 +1,142 @@
+-- A slot's bytes with the fields of a change written over them: the bytes of the changed slot. Assumes nothing.
+use Prim.Native.Nat.{ℕ, _+_, _*_, _%_, _≤_}
+use mathlib.Core.Path.{_≡_, sym, ap, _∙_}
+use mathlib.Core.List.{[], _∷_, _++_, append-nil}
+use native.Mathlib.Nat.{add-zero}
+use native.Mathlib.Omega.{arith}
+use lib.ListN.{length, getD, drop, replicate-append-replicate, length-drop}
+use mir.Syntax.{w8}
+use mir.Val.{Fits}
+use Rattle.profile.specs.Bytes.{Bytes, byte, part, word, word-bytes, zeros, joined}
+use Rattle.profile.specs.Slot.{hashSize, mostHashes, Count, Right, recount, reserved, enabled, disabled, empty, taken, HasRoom}
+use Rattle.profile.specs.Table.{rightOf, unpack, image, blank, pack}
+use Rattle.profile.proofs.Counts.{blank-count}
+use Rattle.profile.proofs.Strings.{Bytes256, length-zeros, length-part, length-pieces, each-pieces, joined-pieces}
+use Rattle.profile.proofs.Unpack.{pack-unpack}
+use Rattle.profile.proofs.WellFormed.{slot-fits}
+use Rattle.octets.specs.Over.{overAt}
+use Rattle.changes.specs.Change.{Placed, rightFrom}
+use Rattle.changes.proofs.Images.{place-over, handle-over, count-over, length-over, written, stored}
+
+-- the bytes of a slice, each of which is known to fit, are below 256
+pub below-256 : (s : Bytes) → ((i : ℕ) → Fits w8 (getD s i 0)) → Bytes256 s
+below-256 s f i = omega (arith, f i)
+
+-- ---- the bytes of a slot of each place, as an image
+zeros-more : (n m : ℕ) (d : Bytes) → d ≡ zeros m → zeros n ++ d ≡ zeros (n + m)
+unfolding zeros
+zeros-more n m d e = rw e (replicate-append-replicate n m 0)
+
+zero-more : (m : ℕ) (d : Bytes) → d ≡ zeros m → 0 ∷ d ≡ zeros (1 + m)
+unfolding zeros
+zero-more m d e = rw e (replicate-append-replicate 1 m 0)
+
+-- an empty slot: place 0, and a handle, a right and a length of zeros
+empty-image : image 0 (zeros 10) blank 0 ≡ pack empty
+unfolding pack image
+empty-image =
+    zero-more 4287 _ (zeros-more 10 4277 _ (zeros-more 16 4261 _
+    (zero-more 4260 _ (zero-more 4259 _ (zero-more 4258 _ (zero-more 4257 _
+    (zeros-more 160 4097 _ (zero-more 4096 _ (append-nil (zeros 4096))))))))))
+
+blank-room : HasRoom hashSize mostHashes blank
+blank-room = record { key-16 = length-zeros 16; counts = blank-count; hashed = record { each = tt; few = omega arith }; short = omega arith }
+
+module _ (s : Bytes) (bytes : Bytes256 s) where
+  is-empty : Placed 0 s → s ≡ image 0 (zeros 10) blank 0
+  unfolding unpack
+  is-empty w = sym (pack-unpack s (w .long) bytes (w .well)) ∙ rw (w .place-is) (sym empty-image)
+
+  is-reserved : Placed 1 s → s ≡ image 1 (part 1 10 s) blank (word 29 s)
+  unfolding pack unpack
+  is-reserved w = sym (pack-unpack s (w .long) bytes (w .well)) ∙ rw (w .place-is)
+
+  -- an enabled slot, and a disabled one
+  abbrev imaged : ℕ → Bytes
+  imaged p = image p (part 1 10 s) (rightOf s) (length (rightOf s .payload))
+
+  is-enabled : Placed 2 s → s ≡ imaged 2
+  unfolding pack unpack
+  is-enabled w = sym (pack-unpack s (w .long) bytes (w .well)) ∙ rw (w .place-is)
+
+  is-disabled : Placed 3 s → s ≡ imaged 3
+  unfolding pack unpack
+  is-disabled w = sym (pack-unpack s (w .long) bytes (w .well)) ∙ rw (w .place-is)
+
+  handle-10 : length s ≡ 4288 → length (part 1 10 s) ≡ 10
+  handle-10 e = length-part 1 10 s (omega arith)
+
+  room-enabled : Placed 2 s → HasRoom hashSize mostHashes (rightOf s)
+  unfolding unpack
+  room-enabled w = (rw (w .place-is) at (slot-fits s (w .long) (w .well))) .1 .room
+
+  room-disabled : Placed 3 s → HasRoom hashSize mostHashes (rightOf s)
+  unfolding unpack
+  room-disabled w = (rw (w .place-is) at (slot-fits s (w .long) (w .well))) .1 .room
+
+-- ---- the changes
+module _ (s : Bytes) (bytes : Bytes256 s) where
+  -- a setup: place, handle and length
+  pub reserves : (h : Bytes) (n : ℕ) → length h ≡ 10 → Placed 0 s → overAt 29 (word-bytes n) (overAt 1 h (overAt 0 (64 ∷ []) s)) ≡ pack (taken h (reserved n))
+  unfolding pack image
+  reserves h n e w =
+      ap (λ (d : Bytes). overAt 29 (word-bytes n) (overAt 1 h (overAt 0 (64 ∷ []) d))) (is-empty s bytes w)
+      ∙ ap (λ (d : Bytes). overAt 29 (word-bytes n) (overAt 1 h d)) (place-over 0 (zeros 10) blank 0 (length-zeros 10) blank-room 1)
+      ∙ ap (λ (d : Bytes). overAt 29 (word-bytes n) d) (handle-over 1 (zeros 10) blank 0 (length-zeros 10) blank-room h e)
+      ∙ length-over 1 h blank 0 e blank-room n
+
+  -- a right where a setup was
+  pub installs : (h : Bytes) (r : Right) → length h ≡ 10 → HasRoom hashSize mostHashes r → Placed 1 s → written 2 h r (length (r .payload)) s ≡ pack (taken h (enabled r))
+  unfolding pack
+  installs h r e f w =
+      ap (written 2 h r (length (r .payload))) (is-reserved s bytes w)
+      ∙ stored 1 2 (part 1 10 s) h r (word 29 s) (length (r .payload)) (handle-10 s bytes (w .long)) e f
+
+  -- another handle, and disabled
+  pub lends : (k : Bytes) → length k ≡ 10 → Placed 2 s → overAt 1 k (overAt 0 ((64 * 3 + byte 0 s % 64) ∷ []) s) ≡ pack (taken k (disabled (rightOf s)))
+  unfolding pack
+  lends k e w =
+      ap (λ (d : Bytes). overAt 1 k (overAt 0 ((64 * 3 + byte 0 d % 64) ∷ []) d)) (is-enabled s bytes w)
+      ∙ ap (overAt 1 k) (place-over 2 (part 1 10 s) (rightOf s) (length (rightOf s .payload)) (handle-10 s bytes (w .long)) (room-enabled s bytes w) 3)
+      ∙ handle-over 3 (part 1 10 s) (rightOf s) (length (rightOf s .payload)) (handle-10 s bytes (w .long)) (room-enabled s bytes w) k e
+
+  -- enabled, with another count
+  pub enables : (c : Count) → Placed 3 s
+      → overAt 27 (word-bytes c) (overAt 0 ((64 * 2 + byte 0 s % 64) ∷ []) s) ≡ pack (taken (part 1 10 s) (enabled (recount c (rightOf s))))
+  unfolding pack
+  enables c w =
+      ap (λ (d : Bytes). overAt 27 (word-bytes c) (overAt 0 ((64 * 2 + byte 0 d % 64) ∷ []) d)) (is-disabled s bytes w)
+      ∙ ap (overAt 27 (word-bytes c)) (place-over 3 (part 1 10 s) (rightOf s) (length (rightOf s .payload)) (handle-10 s bytes (w .long)) (room-disabled s bytes w) 2)
+      ∙ count-over 2 (part 1 10 s) (rightOf s) (length (rightOf s .payload)) (handle-10 s bytes (w .long)) (room-disabled s bytes w) c
+
+-- ---- the right of a request
+module _ (key : Bytes) (count : Count) (n m : ℕ) (f : Bytes) (at : ℕ) (k-16 : length key ≡ 16) (n-8 : n ≤ 8) (m-4096 : m ≤ 4096) (fits : at + 20 * n + m ≤ length f) where
+  pub given-hashes : length (rightFrom key count n m f at .hashes) ≡ n
+  given-hashes = length-pieces hashSize n (drop at f)
+
+  pub given-bytes : joined (rightFrom key count n m f at .hashes) ≡ part at (20 * n) f
+  given-bytes = joined-pieces hashSize n (drop at f)
+
+  pub given-payload : length (rightFrom key count n m f at .payload) ≡ m
+  given-payload = length-part (at + 20 * n) m f (omega arith)
+
+  pub given-room : HasRoom hashSize mostHashes (rightFrom key count n m f at)
+  given-room =
+      record {
+        key-16 = k-16;
+        counts = tt;
+        hashed = record { each = each-pieces hashSize n (drop at f) (rw (length-drop at f) (omega arith)); few = rw given-hashes n-8 };
+        short = rw given-payload m-4096;
+      }
+
+  -- it is stored where a setup was: place, hash count and handle, then key, count and length, then hashes and payload
+  pub given-stored : (s₀ s₁ s₂ s₃ h : Bytes) → Bytes256 s₀ → length h ≡ 10 → Placed 1 s₀
+      → s₁ ≡ overAt 1 h (overAt 0 ((64 * 2 + 4 * n) ∷ []) s₀)
+      → s₂ ≡ overAt 29 (word-bytes m) (overAt 27 (word-bytes count) (overAt 11 key s₁))
+      → s₃ ≡ overAt 192 (part (at + 20 * n) m f) (overAt 31 (part at (20 * n) f) s₂)
+      → s₃ ≡ pack (taken h (enabled (rightFrom key count n m f at)))
+  given-stored s₀ s₁ s₂ s₃ h bytes e w e₁ e₂ e₃ = rw (e₃, e₂, e₁) (sym same ∙ installs s₀ bytes h (rightFrom key count n m f at) e given-room w)
+    where
+      same : written 2 h (rightFrom key count n m f at) (length (rightFrom key count n m f at .payload)) s₀
+          ≡ overAt 192 (part (at + 20 * n) m f) (overAt 31 (part at (20 * n) f) (overAt 29 (word-bytes m) (overAt 27 (word-bytes count) (overAt 11 key (overAt 1 h (overAt 0 ((64 * 2 + 4 * n) ∷ []) s₀))))))
+      same = rw (given-bytes, given-payload, given-hashes, add-zero)

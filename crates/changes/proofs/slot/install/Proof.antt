@@ -1,0 +1,52 @@
+-- `changes::slot::install` meets its contract: the fields of the right are written one after another. Assumes nothing.
+use denote.Ref.{now}
+use Rattle.changes.proofs.SlotBytes.{below-256, given-stored}
+use borrow.Author.Needs.{needs}
+use Rattle.changes.proofs.slot.install.Statement.{statement}
+use Rattle.changes.proofs.slot.install.Tie as tie
+
+cast-put-label : tie.Need-cast-put-label
+cast-put-label c = search needs
+
+put-label-requires : tie.Need-put-label-requires
+put-label-requires c κs = search needs
+
+cast-put-terms : tie.Need-cast-put-terms
+cast-put-terms c = search needs
+
+put-terms-requires : tie.Need-put-terms-requires
+put-terms-requires c κs = search needs
+
+mul-put-content : tie.Need-mul-put-content
+mul-put-content c = search needs
+
+put-content-requires : tie.Need-put-content-requires
+put-content-requires c κs = search needs
+
+same-length : tie.Need-same-length
+same-length c = search needs
+
+returns : tie.Need-returns
+returns c =
+    let known = c .before .before .before .before .before .before .before .before .before .before .before .before .before in
+    let start = known .before in
+    let a = start .args in
+    let label = c .before .before .before .before .before .before .before .before .before .before .put-label in
+    let terms = c .before .before .before .before .before .before .put-terms in
+    let content = c .before .before .put-content in
+    given-stored (a .key) (a .count) (a .hashes) (a .n) (now (a .src)) (a .at) (search needs) (start .pre .1) (start .pre .2) (start .pre .3)
+    (now (a .s)) (label .last .0) (terms .last .0) (content .last .0) (a .h) (below-256 (now (a .s)) (known .slice-known .given)) (search needs) (start .pre .0)
+    (label .ensures) (terms .ensures) (content .ensures)
+
+pub install-spec : {M : Type 1} → statement M
+install-spec =
+    tie.close
+    (tie.spec
+    cast-put-label
+    put-label-requires
+    cast-put-terms
+    put-terms-requires
+    mul-put-content
+    put-content-requires
+    same-length
+    returns)

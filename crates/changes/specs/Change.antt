@@ -1,0 +1,30 @@
+-- What the contracts of this crate speak of: slot i of a table, and when it may be changed.
+use Prim.Native.Nat.{ℕ, _+_, _*_, _<_}
+use mathlib.Core.Path.{_≡_}
+use mathlib.Core.List.{[]}
+use mathlib.Core.Bool.{true}
+use lib.ListN.{length, getD, drop}
+use Rattle.profile.specs.Bytes.{Bytes, part, pieces}
+use Rattle.profile.specs.Slot.{hashSize, Count, Right}
+use Rattle.profile.specs.Table.{slotSize, placeOf, wellSlot, slotCount, slotBytes, wholeSlots, wellTable}
+
+-- the bytes of slot i
+abbrev pub slotAt : Bytes → ℕ → Bytes
+slotAt table i = getD (slotBytes table) i []
+
+-- a whole, well-formed table has a slot i
+pub record Has (table : Bytes) (i : ℕ) : Type 0 where
+  pub whole : wholeSlots table ≡ true
+  pub well : wellTable table ≡ true
+  pub inside : i < slotCount table
+
+-- a whole, well-formed slot of a place: 0 empty, 1 reserved, 2 enabled, 3 disabled
+pub record Placed (place : ℕ) (s : Bytes) : Type 0 where
+  pub long : length s ≡ slotSize
+  pub well : wellSlot s ≡ true
+  pub place-is : placeOf s ≡ place
+
+-- the right of a request whose n hashes and payload of m bytes stand one behind the other in its frame, from a place on
+abbrev pub rightFrom : Bytes → Count → ℕ → ℕ → Bytes → ℕ → Right
+rightFrom key count n m f at =
+    record { key = key; count = count; hashes = pieces hashSize n (drop at f); payload = part (at + hashSize * n) m f }
