@@ -1,0 +1,64 @@
+-- A list of handles that grows in a buffer, and the head that closes it. Assumes nothing.
+use mathlib.Core.Path.{_≡_, refl, sym, ap, ap₂, _∙_}
+use mathlib.Core.List.{List, [], _∷_, _++_, append-assoc, append-nil}
+use mathlib.Core.Bool.{Bool}
+use Prim.Native.Nat.{ℕ, suc, _+_, _*_, _≤_}
+use native.Mathlib.Omega.{arith}
+use lib.ListN.{length, take, drop, length-append, take-append-drop}
+use lib.Seq.{drop-at, length-take-le}
+use Rattle.profile.specs.Bytes.{Bytes, if_then_else_, over, joined, Each}
+use Rattle.profile.specs.Frame.{frame}
+use Rattle.profile.specs.Agent.{handles, writeGiven}
+use Rattle.profile.proofs.Strings.{length-each}
+use Rattle.octets.specs.Over.{overAt}
+use Rattle.octets.proofs.Overlays.{over-start, over-length, over-more}
+use Rattle.replies.specs.Written.{headOf}
+use Rattle.replies.specs.Listed.{holding, listStart}
+
+-- ---- one handle more
+pub joined-snoc : (hs : List Bytes) (h : Bytes) → joined (hs ++ (h ∷ [])) ≡ joined hs ++ h
+joined-snoc [] h = append-nil h
+joined-snoc (x ∷ hs) h = rw (joined-snoc hs h, append-assoc x (joined hs) h)
+
+pub each-snoc : (k : ℕ) (hs : List Bytes) (h : Bytes) → Each k hs → length h ≡ k → Each k (hs ++ (h ∷ []))
+each-snoc k [] h e f = (f, tt)
+each-snoc k (x ∷ hs) h e f = (e .0, each-snoc k hs h (e .1) f)
+
+pub hold-none : (b : Bytes) → holding [] b ≡ b
+unfolding holding overAt
+hold-none b = rw (append-nil (take 5 b)) (take-append-drop 5 b)
+
+module _ (hs : List Bytes) (n : ℕ) (b : Bytes) (each : Each 10 hs) (count : length hs ≡ n) (fits : 5 + 10 * n ≤ length b) where
+  size : length (joined hs) ≡ 10 * n
+  size = length-each 10 hs each ∙ ap (λ (k : ℕ). 10 * k) count
+
+  pub hold-length : length (holding hs b) ≡ length b
+  unfolding holding
+  hold-length = let s = size in over-length (joined hs) b 5 (omega arith)
+
+  pub hold-more : (h : Bytes) → length h ≡ 10 → 15 + 10 * n ≤ length b → overAt (5 + 10 * n) h (holding hs b) ≡ holding (hs ++ (h ∷ [])) b
+  unfolding holding
+  hold-more h e f = let s = size in over-more (joined hs) h b 5 (5 + 10 * n) (omega arith) (omega arith) ∙ rw (joined-snoc hs h)
+
+-- ---- the head
+-- bytes written in front of bytes: one writing of both
+over-front : (xs ys d : Bytes) (n : ℕ) → length xs ≡ n → n ≤ length d → over xs (overAt n ys d) ≡ over (xs ++ ys) d
+unfolding over overAt
+over-front xs ys d n e h =
+    let t : Bytes = drop (n + length ys) d in
+    rw (e, append-assoc (take n d) ys t, drop-at (take n d) (ys ++ t) n (length-take-le n d h), length-append xs ys, append-assoc xs ys (drop (length xs + length ys) d), e)
+
+pub list-closed : (hs : List Bytes) (n : ℕ) (b : Bytes) → Each 10 hs → length hs ≡ n → 5 + 10 * n ≤ length b → (more : Bool)
+    → over (listStart n more) (holding hs b) ≡ over (frame 8 0 (writeGiven (handles more hs))) b
+unfolding holding listStart frame
+list-closed hs n b each count fits more =
+    over-front (listStart n more) (joined hs) b 5 refl (omega arith)
+    ∙ ap (λ (m : ℕ). over (headOf 8 0 m ++ ((if more then 128 else 0) ∷ joined hs)) b) says
+  where
+    says : 1 + 10 * n ≡ suc (length (joined hs))
+    says = omega (arith, size hs n b each count fits)
+
+-- it is written in two parts
+pub start-written : (n : ℕ) (more : Bool) (d : Bytes) → 5 ≤ length d → overAt 4 ((if more then 128 else 0) ∷ []) (overAt 0 (headOf 8 0 (1 + 10 * n)) d) ≡ over (listStart n more) d
+unfolding listStart
+start-written n more d h = over-more (headOf 8 0 (1 + 10 * n)) ((if more then 128 else 0) ∷ []) d 0 4 refl h ∙ over-start (headOf 8 0 (1 + 10 * n) ++ ((if more then 128 else 0) ∷ [])) d

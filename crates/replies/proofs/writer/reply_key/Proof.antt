@@ -1,0 +1,24 @@
+-- `replies::writer::reply_key` meets its contract: a head, and the key. Assumes nothing.
+use denote.Ref.{now}
+use Rattle.replies.proofs.Frames.{key-written}
+use borrow.Author.Needs.{needs}
+use Rattle.replies.proofs.writer.reply_key.Statement.{statement}
+use Rattle.replies.proofs.writer.reply_key.Tie as tie
+
+put-head-requires : tie.Need-put-head-requires
+put-head-requires c κs = search needs
+
+put-part-requires : tie.Need-put-part-requires
+put-part-requires c κs = search needs
+
+same-length : tie.Need-same-length
+same-length c = search needs
+
+returns : tie.Need-returns
+returns c =
+    let start = c .before .before .before .before .before .before .before .before .before .before in
+    let a = start .args in
+    cc (key-written (now (a .slot)) (now (a .reply)) (start .pre .1) (start .pre .0))
+
+pub reply-key-spec : {M : Type 1} → statement M
+reply-key-spec = tie.close (tie.spec put-head-requires put-part-requires same-length returns)

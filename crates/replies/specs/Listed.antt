@@ -1,0 +1,15 @@
+-- A list of handles as it grows in a buffer.
+use Prim.Native.Nat.{ℕ, _+_, _*_}
+use mathlib.Core.List.{List, [], _∷_, _++_}
+use mathlib.Core.Bool.{Bool}
+use Rattle.profile.specs.Bytes.{Bytes, if_then_else_, joined}
+use Rattle.octets.specs.Over.{overAt}
+use Rattle.replies.specs.Written.{headOf}
+
+-- the buffer b with handles, the first at offset 5
+unfoldable pub holding : List Bytes → Bytes → Bytes
+holding hs b = overAt 5 (joined hs) b
+
+-- what stands in front of n handles: the head, and "more 1 bit, 7 zero bits"
+unfoldable pub listStart : ℕ → Bool → Bytes
+listStart n more = headOf 8 0 (1 + 10 * n) ++ ((if more then 128 else 0) ∷ [])
