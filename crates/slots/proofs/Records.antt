@@ -1,13 +1,14 @@
 -- What an answer of `look_up` says: the agent's verdict on the handle, and the record found. Assumes nothing.
-use Prim.Native.Nat.{ℕ, zero, suc, _*_, _<_}
+use Prim.Native.Nat.{ℕ, zero, suc, _*_, _≤_, _<_}
 use mathlib.Core.Path.{_≡_, refl, sym, ap, _∙_}
 use mathlib.Core.List.{List, []}
-use mathlib.Core.Bool.{false}
+use mathlib.Core.Bool.{true, false}
 use native.Mathlib.Omega.{arith}
+use lib.ListN.{length}
 use lib.Dec.{ltb}
 use Rattle.profile.specs.Bytes.{Bytes, part, word}
 use Rattle.profile.specs.Slot.{Entry, reserved, enabled, disabled, Slot, taken}
-use Rattle.profile.specs.Table.{placeOf, rightOf, unpack, slotCount, slotsOf}
+use Rattle.profile.specs.Table.{placeOf, hashCountOf, rightOf, unpack, wellSlot, wellTable, slotCount, slotsOf}
 use Rattle.profile.specs.Frame.{notFound, twoRecords}
 use Rattle.profile.specs.Agent.{Answer, deny, Found, absent, one, find, times, onRecord}
 use Rattle.profile.proofs.Logic.{if-cases}
@@ -18,7 +19,8 @@ use Rattle.slots.specs.declared.lookup.Lookup.the-variants.{Absent, Two,
 use Rattle.slots.specs.Places.{placeNumber}
 use Rattle.slots.specs.LookUp.{placeOfEntry, foundAt, lookUp}
 use Rattle.slots.proofs.Unpacking.{empty-taken, same-entry, unpack-empty, unpack-reserved, unpack-enabled, unpack-disabled}
-use Rattle.slots.proofs.SlotParts.{length-slots, unpacked-at}
+use Rattle.slots.proofs.SlotParts.{length-slots, length-slot, unpacked-at}
+use Rattle.slots.proofs.WellSlots.{few-hashes, length-1-to-4096, slot-well}
 use Rattle.slots.proofs.LookingUp.{found-stands}
 
 -- ---- on any slots: what each answer means to the agent
@@ -76,6 +78,13 @@ pub record RecordAt (t h : Bytes) (i : ℕ) (e : Entry) : Type 0 where
   pub unpacked : unpack (part (4288 * i) 4288 t) ≡ taken h e
   pub acted-on : (f : ℕ → Entry → Answer) → onRecord (slotsOf t) h f ≡ f i e
 
+-- the bytes of a record's slot: how long they are, and what its fields are bounded by
+pub record RecordFits (s : Bytes) : Type 0 where
+  pub sized : length s ≡ 4288
+  pub well : wellSlot s ≡ true
+  pub few : hashCountOf s ≤ 8
+  pub long : (1 ≤ word 29 s) × (word 29 s ≤ 4096)
+
 module _ (t h : Bytes) (i : ℕ) where
   pub record-at : (p : Place) → lookUp h (slotsOf t) ≡ At i p → RecordAt t h i (entryOf p (part (4288 * i) 4288 t))
   record-at p l = rw (← known) (record { below = below; unpacked = unpacked; acted-on = s .acted-on })
@@ -91,6 +100,16 @@ module _ (t h : Bytes) (i : ℕ) where
 
       known : s .entry ≡ entryOf p (part (4288 * i) 4288 t)
       known = entry-is (part (4288 * i) 4288 t) h (s .entry) unpacked ∙ ap (λ (q : Place). entryOf q (part (4288 * i) 4288 t)) (s .placed)
+
+  -- in a well-formed table its slot is well formed, with "length 1 to 4,096"
+  pub record-fits : (e : Entry) → wellTable t ≡ true → RecordAt t h i e → RecordFits (part (4288 * i) 4288 t)
+  record-fits e w r = record { sized = length-slot t i (r .below); well = well; few = few-hashes (part (4288 * i) 4288 t) well; long = length-1-to-4096 (part (4288 * i) 4288 t) well taken-slot }
+    where
+      well : wellSlot (part (4288 * i) 4288 t) ≡ true
+      well = slot-well t i w (r .below)
+
+      taken-slot : placeOf (part (4288 * i) 4288 t) ≡ 0 → ⊥
+      taken-slot z = empty-taken h e (sym (unpack-empty (part (4288 * i) 4288 t) z) ∙ r .unpacked)
 
   -- "all but empty have a handle"
   pub none-empty : lookUp h (slotsOf t) ≡ At i Empty → ⊥

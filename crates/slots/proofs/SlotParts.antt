@@ -27,9 +27,13 @@ module _ (k : ℕ) where
 
 -- ---- slots
 module _ (t : Bytes) where
+  pub length-bytes : length (slotBytes t) ≡ slotCount t
+  unfolding slotBytes
+  length-bytes = length-pieces 4288 (slotCount t) t
+
   pub length-slots : length (slotsOf t) ≡ slotCount t
-  unfolding slotsOf slotBytes
-  length-slots = length-map (slotBytes t) unpack ∙ length-pieces 4288 (slotCount t) t
+  unfolding slotsOf
+  length-slots = length-map (slotBytes t) unpack ∙ length-bytes
 
   pub getD-slots : (i : ℕ) → i < slotCount t → getD (slotBytes t) i [] ≡ part (4288 * i) 4288 t
   unfolding slotBytes
@@ -56,8 +60,7 @@ module _ (t : Bytes) where
 
   -- behind the last
   pub bytes-end : (i : ℕ) → slotCount t ≤ i → drop i (slotBytes t) ≡ []
-  unfolding slotBytes
-  bytes-end i h = drop-of-length-le (pieces 4288 (slotCount t) t) {i = i} (rw (length-pieces 4288 (slotCount t) t) h)
+  bytes-end i h = drop-of-length-le (slotBytes t) {i = i} (rw length-bytes h)
 
   pub slots-end : (i : ℕ) → slotCount t ≤ i → drop i (slotsOf t) ≡ []
   slots-end i h = drop-of-length-le (slotsOf t) {i = i} (rw length-slots h)

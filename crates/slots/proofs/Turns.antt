@@ -1,13 +1,13 @@
 -- One turn of each loop over the slots, and its end: what the slots from i on say, from slot i and the slots behind it. Assumes nothing.
 use Prim.Native.Nat.{ℕ, suc, _+_, _*_, _≤_, _<_}
 use mathlib.Core.Path.{_≡_, refl, ap, _∙_}
-use mathlib.Core.List.{List, _∷_}
+use mathlib.Core.List.{List, [], _∷_, _++_}
 use mathlib.Core.Bool.{Bool, true, false, _&&_, not}
 use lib.ListN.{drop}
 use Rattle.profile.specs.Bytes.{Bytes, part, all, any}
 use Rattle.profile.specs.Slot.{Slot, empty, taken, named, inUse, distinct}
 use Rattle.profile.specs.Table.{placeOf, unpack, wellSlot, slotCount, slotBytes, slotsOf}
-use Rattle.profile.specs.Agent.{lowestEmpty}
+use Rattle.profile.specs.Agent.{lowestEmpty, listedSlot, listed}
 use Rattle.slots.specs.Again.{again}
 use Rattle.slots.specs.LookUp.{firstUnder}
 use Rattle.slots.proofs.SlotParts.{bytes-step, bytes-end, slots-step, slots-end}
@@ -75,6 +75,9 @@ module _ (t : Bytes) (i : ℕ) (h : i < slotCount t) (s : Bytes) (e : s ≡ part
   unfolding firstUnder
   under-pass k p = rw (slots-from, p)
 
+  pub listed-pass : (q : List Bytes) → listed q (drop i (slotsOf t)) ≡ listedSlot q (unpack s) ++ listed q (drop (i + 1) (slotsOf t))
+  listed-pass q = rw slots-from
+
 -- ---- behind the last slot
 module _ (t : Bytes) (i : ℕ) (h : slotCount t ≤ i) where
   pub well-end : all wellSlot (drop i (slotBytes t)) ≡ true
@@ -89,3 +92,6 @@ module _ (t : Bytes) (i : ℕ) (h : slotCount t ≤ i) where
   pub under-end : (k : Bytes) → firstUnder k (drop i (slotsOf t)) ≡ 0
   unfolding firstUnder
   under-end k = rw (slots-end t i h)
+
+  pub listed-end : (q : List Bytes) → listed q (drop i (slotsOf t)) ≡ []
+  listed-end q = rw (slots-end t i h)

@@ -1,4 +1,5 @@
 pub mod Places
 pub mod Heads
-pub mod LookUp
+pub mod Taken
 pub mod Again
+pub mod LookUp

@@ -8,7 +8,7 @@ ghost use Rattle.profile.specs.Table.{unpack, slotCount, slotsOf};
 ghost use Rattle.slots.specs.LookUp.{firstUnder};
 
 // "all but empty have a handle": an empty slot is under none, its ten zero bytes included.
-pub fn is_under(s: &[u8], h: &[u8]) -> bool
+fn is_under(s: &[u8], h: &[u8]) -> bool
     requires { ⌜ (length (now s) ≡ 4288) × (length (now h) ≡ 10) ⌝ }
     ensures { λ r. ⌜ r ≡ named (now (h .entry)) (unpack (now (s .entry))) ⌝ }
 {
@@ -19,7 +19,7 @@ pub fn is_under(s: &[u8], h: &[u8]) -> bool
 }
 
 // The first slot under a handle, looking from slot `from` on; the number of slots where there is none.
-pub fn first_under(t: &[u8], h: &[u8], from: usize) -> usize
+pub(crate) fn first_under(t: &[u8], h: &[u8], from: usize) -> usize
     requires { ⌜ (length (now h) ≡ 10) × (from ≤ slotCount (now t)) ⌝ }
     ensures { λ r. ⌜ r ≡ from + firstUnder (now (h .entry)) (drop from (slotsOf (now (t .entry)))) ⌝ }
 {
@@ -35,7 +35,7 @@ pub fn first_under(t: &[u8], h: &[u8], from: usize) -> usize
 }
 
 // Whether a handle is in use in the slots from `from` on.
-pub fn in_use_from(t: &[u8], h: &[u8], from: usize) -> bool
+pub(crate) fn in_use_from(t: &[u8], h: &[u8], from: usize) -> bool
     requires { ⌜ (length (now h) ≡ 10) × (from ≤ slotCount (now t)) ⌝ }
     ensures { λ r. ⌜ r ≡ inUse (now (h .entry)) (drop from (slotsOf (now (t .entry)))) ⌝ }
 {

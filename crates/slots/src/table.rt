@@ -1,4 +1,4 @@
-// The table of slots: when it is well formed, and where it has room.
+// When a table of slots is well formed.
 use crate::part::slot_at;
 ghost use mathlib.Core.Path.{_≡_};
 ghost use Prim.Native.Nat.{_<_};
@@ -6,11 +6,10 @@ ghost use lib.ListN.{drop};
 ghost use Rattle.profile.specs.Bytes.{all};
 ghost use Rattle.profile.specs.Slot.{distinct};
 ghost use Rattle.profile.specs.Table.{wellSlot, wellTable, slotCount, slotBytes, slotsOf};
-ghost use Rattle.profile.specs.Agent.{lowestEmpty};
 ghost use Rattle.slots.specs.Again.{again};
 
 // "A table is well formed when its slots are".
-pub fn all_well(t: &[u8]) -> bool
+fn all_well(t: &[u8]) -> bool
     ensures { λ r. ⌜ r ≡ all wellSlot (slotBytes (now (t .entry))) ⌝ }
 {
     let n = t.len() / 4288;
@@ -25,7 +24,7 @@ pub fn all_well(t: &[u8]) -> bool
 }
 
 // Whether the handle of slot i stands in a slot behind it too.
-pub fn stands_again(t: &[u8], i: usize) -> bool
+fn stands_again(t: &[u8], i: usize) -> bool
     requires { ⌜ i < slotCount (now t) ⌝ }
     ensures { λ r. ⌜ r ≡ again (drop i (slotsOf (now (t .entry)))) ⌝ }
 {
@@ -37,7 +36,7 @@ pub fn stands_again(t: &[u8], i: usize) -> bool
 }
 
 // "no two non-empty slots have the same handle": each handle is looked for in the slots behind its own.
-pub fn all_distinct(t: &[u8]) -> bool
+fn all_distinct(t: &[u8]) -> bool
     ensures { λ r. ⌜ r ≡ distinct (slotsOf (now (t .entry))) ⌝ }
 {
     let n = t.len() / 4288;
@@ -59,20 +58,4 @@ pub fn well_table(t: &[u8]) -> bool
         return false;
     }
     all_distinct(t)
-}
-
-// "The lowest empty slot becomes reserved."; the number of slots where none is empty.
-pub fn lowest_empty(t: &[u8]) -> usize
-    ensures { λ r. ⌜ r ≡ lowestEmpty (slotsOf (now (t .entry))) ⌝ }
-{
-    let n = t.len() / 4288;
-    let mut i = 0;
-    while i < n {
-        let s = slot_at(t, i);
-        if octets::bits::slot_place(s[0]) == 0 {
-            return i;
-        }
-        i += 1;
-    }
-    n
 }

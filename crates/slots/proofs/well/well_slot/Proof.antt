@@ -1,8 +1,8 @@
--- `slots::well::well_slot` meets its contract: the two bounds, and then the tests that are left. Assumes nothing.
+-- `slots::well::well_slot` meets its contract, place by place. Assumes nothing.
 use denote.Ref.{now}
-use mathlib.Core.Path.{sym}
-use native.Mathlib.Omega.{arith}
-use Rattle.slots.proofs.WellSlots.{too-many-hashes, too-long, well-parts}
+use mathlib.Core.Path.{sym, ap, _∙_}
+use Rattle.slots.specs.Places.{placeNumber}
+use Rattle.slots.proofs.WellSlots.{well-empty, well-right-slot, reserved-parts}
 use borrow.Author.Needs.{needs}
 use Rattle.slots.proofs.well.well_slot.Statement.{statement}
 use Rattle.slots.proofs.well.well_slot.Tie as tie
@@ -10,65 +10,74 @@ use Rattle.slots.proofs.well.well_slot.Tie as tie
 head-of-requires : tie.Need-head-of-requires
 head-of-requires c κs = search needs
 
-returns : tie.Need-returns
-returns c =
-    let a = c .before .before .before in
-    sym (too-many-hashes (now (a .args .s)) (a .pre) (omega (arith, c .before .head-of .ensures .hashes-are, c .if1 .taken)))
+enum-told : tie.Need-enum-told
+enum-told c = search needs
 
-returns-2 : tie.Need-returns-2
-returns-2 c =
-    let a = c .before .before .before .before in
-    sym (too-long (now (a .args .s)) (a .pre) (omega (arith, c .before .before .head-of .ensures .length-is, c .if2 .taken)))
+all-zero-requires : tie.Need-all-zero-requires
+all-zero-requires c κs = search needs
 
-shared-slice-read-slot-spare : tie.Need-shared-slice-read-slot-spare
-shared-slice-read-slot-spare c = search needs
-
-slot-spare-requires : tie.Need-slot-spare-requires
-slot-spare-requires c κs = search needs
-
-mul-zero-part : tie.Need-mul-zero-part
-mul-zero-part c = search needs
-
-add-zero-part : tie.Need-add-zero-part
-add-zero-part c = search needs
+enum-told-2 : tie.Need-enum-told-2
+enum-told-2 c = search needs
 
 zero-part-requires : tie.Need-zero-part-requires
 zero-part-requires c κs = search needs
 
-add-zero-part-2 : tie.Need-add-zero-part-2
-add-zero-part-2 c = search needs
-
 zero-part-requires-2 : tie.Need-zero-part-requires-2
 zero-part-requires-2 c κs = search needs
 
-well-placed-requires : tie.Need-well-placed-requires
-well-placed-requires c κs = search needs
+well-taken-requires : tie.Need-well-taken-requires
+well-taken-requires c κs = search needs
 
-shared-slice-read-result : tie.Need-shared-slice-read-result
-shared-slice-read-result c = search needs
+enum-told-3 : tie.Need-enum-told-3
+enum-told-3 c = search needs
+
+well-taken-requires-2 : tie.Need-well-taken-requires-2
+well-taken-requires-2 c κs = search needs
+
+enum-told-4 : tie.Need-enum-told-4
+enum-told-4 c = search needs
+
+well-taken-requires-3 : tie.Need-well-taken-requires-3
+well-taken-requires-3 c κs = search needs
+
+returns : tie.Need-returns
+returns c =
+    let at = sym (c .before .before .before .head-of .ensures .place-is) ∙ ap placeNumber (c .before .enum-told .given .1) in
+    c .all-zero .ensures ∙ sym (well-empty (now (c .before .before .before .before .before .args .s)) at)
+
+returns-2 : tie.Need-returns-2
+returns-2 c =
+    let a = c .before .before .before .before .before .before .before in
+    let h = c .before .before .before .before .before .head-of in
+    let at = sym (h .ensures .place-is) ∙ ap placeNumber (c .before .before .before .enum-told2 .given .1) in
+    reserved-parts (now (a .args .s)) (a .pre) (h .result .hashes) _ _ _ at (h .ensures .hashes-are) (c .well-taken .ensures) (c .before .before .zero-part .ensures) (c .before .zero-part2 .ensures)
 
 returns-3 : tie.Need-returns-3
 returns-3 c =
-    let a = c .before .before .before .before .before .before .before .before .before .before in
-    let h = c .before .before .before .before .before .before .before .before .head-of in
-    well-parts (now (a .args .s)) (a .pre) (h .result .hashes) (h .result .length) _ _ _ _
-    (h .ensures .hashes-are) (h .ensures .length-is) (c .before .before .before .before .before .before .before .if1 .left) (c .before .before .before .before .before .before .if2 .left)
-    (c .before .before .before .before .slot-spare .ensures) (c .before .before .before .zero-part .ensures) (c .before .before .zero-part2 .ensures) (c .before .well-placed .ensures)
+    let at = sym (c .before .before .before .head-of .ensures .place-is) ∙ ap placeNumber (c .before .enum-told3 .given .1) in
+    c .well-taken2 .ensures ∙ sym (well-right-slot (now (c .before .before .before .before .before .args .s)) 0 at)
+
+returns-4 : tie.Need-returns-4
+returns-4 c =
+    let at = sym (c .before .before .before .head-of .ensures .place-is) ∙ ap placeNumber (c .before .enum-told4 .given .1) in
+    c .well-taken3 .ensures ∙ sym (well-right-slot (now (c .before .before .before .before .before .args .s)) 1 at)
 
 pub well-slot-spec : {M : Type 1} → statement M
 well-slot-spec =
     tie.close
     (tie.spec
     head-of-requires
+    enum-told
+    all-zero-requires
+    enum-told-2
+    zero-part-requires
+    zero-part-requires-2
+    well-taken-requires
+    enum-told-3
+    well-taken-requires-2
+    enum-told-4
+    well-taken-requires-3
     returns
     returns-2
-    shared-slice-read-slot-spare
-    slot-spare-requires
-    mul-zero-part
-    add-zero-part
-    zero-part-requires
-    add-zero-part-2
-    zero-part-requires-2
-    well-placed-requires
-    shared-slice-read-result
-    returns-3)
+    returns-3
+    returns-4)

@@ -1,4 +1,4 @@
--- `slots::table::lowest_empty` meets its contract. The invariant: no slot before i is empty. Assumes nothing.
+-- `slots::room::lowest_empty` meets its contract. The invariant: no slot before i is empty. Assumes nothing.
 use denote.Ref.{now}
 use mathlib.Core.Path.{_≡_, sym, _∙_}
 use native.Mathlib.Omega.{arith}
@@ -8,8 +8,8 @@ use borrow.Author.Needs.{needs}
 use Rattle.profile.specs.Table.{slotsOf}
 use Rattle.profile.specs.Agent.{lowestEmpty}
 use Rattle.slots.proofs.Turns.{empty-stop, empty-pass, empty-end}
-use Rattle.slots.proofs.table.lowest_empty.Statement.{statement}
-use Rattle.slots.proofs.table.lowest_empty.Tie as tie
+use Rattle.slots.proofs.room.lowest_empty.Statement.{statement}
+use Rattle.slots.proofs.room.lowest_empty.Tie as tie
 
 abbrev Inv-loop : tie.InvT-loop
 Inv-loop t n i₀ i = (i ≤ n) × (lowestEmpty (slotsOf t) ≡ i + lowestEmpty (drop i (slotsOf t)))

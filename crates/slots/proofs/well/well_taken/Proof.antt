@@ -1,0 +1,65 @@
+-- `slots::well::well_taken` meets its contract: the two bounds, and then the tests that are left. Assumes nothing.
+use denote.Ref.{now}
+use mathlib.Core.Path.{sym}
+use native.Mathlib.Omega.{arith}
+use Rattle.slots.proofs.WellSlots.{too-many-hashes, too-long, taken-parts}
+use borrow.Author.Needs.{needs}
+use Rattle.slots.proofs.well.well_taken.Statement.{statement}
+use Rattle.slots.proofs.well.well_taken.Tie as tie
+
+returns : tie.Need-returns
+returns c =
+    let a = c .before .before in
+    sym (too-many-hashes (now (a .args .s)) (omega (arith, a .pre .1 .hashes-are, c .if1 .taken)))
+
+returns-2 : tie.Need-returns-2
+returns-2 c =
+    let a = c .before .before .before in
+    sym (too-long (now (a .args .s)) (omega (arith, a .pre .1 .length-is, c .if2 .taken)))
+
+shared-slice-read-slot-spare : tie.Need-shared-slice-read-slot-spare
+shared-slice-read-slot-spare c = search needs
+
+slot-spare-requires : tie.Need-slot-spare-requires
+slot-spare-requires c κs = search needs
+
+mul-zero-part : tie.Need-mul-zero-part
+mul-zero-part c = search needs
+
+add-zero-part : tie.Need-add-zero-part
+add-zero-part c = search needs
+
+zero-part-requires : tie.Need-zero-part-requires
+zero-part-requires c κs = search needs
+
+add-zero-part-2 : tie.Need-add-zero-part-2
+add-zero-part-2 c = search needs
+
+zero-part-requires-2 : tie.Need-zero-part-requires-2
+zero-part-requires-2 c κs = search needs
+
+shared-slice-read-result : tie.Need-shared-slice-read-result
+shared-slice-read-result c = search needs
+
+returns-3 : tie.Need-returns-3
+returns-3 c =
+    let a = c .before .before .before .before .before .before .before .before in
+    taken-parts (now (a .args .s)) (a .pre .0) (a .args .head .hashes) (a .args .head .length) _ _ _
+    (a .pre .1 .hashes-are) (a .pre .1 .length-is) (c .before .before .before .before .before .before .if1 .left) (c .before .before .before .before .before .if2 .left)
+    (c .before .before .before .slot-spare .ensures) (c .before .before .zero-part .ensures) (c .before .zero-part2 .ensures)
+
+pub well-taken-spec : {M : Type 1} → statement M
+well-taken-spec =
+    tie.close
+    (tie.spec
+    returns
+    returns-2
+    shared-slice-read-slot-spare
+    slot-spare-requires
+    mul-zero-part
+    add-zero-part
+    zero-part-requires
+    add-zero-part-2
+    zero-part-requires-2
+    shared-slice-read-result
+    returns-3)
