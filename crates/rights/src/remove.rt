@@ -1,0 +1,24 @@
+// Kind 6, Rights Removal.
+use crate::decision::Decision;
+use crate::decision::Takes;
+ghost use Rattle.profile.specs.Request.{remove as removal};
+ghost use Rattle.rights.specs.Serving.{Ready, Serves, answerTo};
+
+// "absent, 4; reserved, 6. All bytes of the slot become 0."
+pub fn remove(table: &mut [u8], reply: &mut [u8], h: [u8; 10])
+    requires { ⌜ Ready (now table) (now reply) ⌝ }
+    ensures { λ _. ⌜ Serves 6 (answerTo (now (table .entry)) (removal h)) (now (table .entry)) (now (reply .entry)) (now (table .exit)) (now (reply .exit)) ⌝ }
+{
+    let takes = Takes {
+        reserved: false,
+        enabled: true,
+        disabled: true,
+    };
+    match crate::decision::slot_under(table, h, takes) {
+        Decision::Refuse(status) => replies::writer::reply_status(reply, 6, status),
+        Decision::Change(i) => {
+            changes::clear_slot(table, i);
+            replies::writer::reply_status(reply, 6, 0)
+        }
+    }
+}
