@@ -31,7 +31,7 @@ use Rattle.rights.proofs.Answers.{Denied}
 
 -- ---- a record that was found, by whether its place is one that the request takes
 module _ (w : Takes) (l : Lookup) (i : ℕ) (p : Place) (b : Bool) (found : l ≡ At i p) (e : b ≡ takesPlace w p) where
-  pub taken-decided : b ≡ true → Change i ≡ decided w l
+  pub taken-decided : b ≡ true → Change i p ≡ decided w l
   unfolding decided
   taken-decided q = rw (found, ← e, q)
 
@@ -40,14 +40,19 @@ module _ (w : Takes) (l : Lookup) (i : ℕ) (p : Place) (b : Bool) (found : l �
   other-decided q = rw (found, ← e, q)
 
 -- ---- refused
-change-refuse : {i n : ℕ} → Change i ≡ Refuse n → ⊥
+change-refuse : {i n : ℕ} {p : Place} → Change i p ≡ Refuse n → ⊥
 change-refuse q = let z : _≡_ {A = ℕ} 0 1 = cc in omega arith
 
 refused-is : {m n : ℕ} → Refuse m ≡ Refuse n → m ≡ n
 refused-is q = cc
 
-changed-is : {i j : ℕ} → Change i ≡ Change j → i ≡ j
-changed-is q = cc
+placed-is : {i j : ℕ} {p o : Place} → Change i p ≡ Change j o → p ≡ o
+placed-is q = cc
+
+changed-is : {i j : ℕ} {p o : Place} → Change i p ≡ Change j o → At i p ≡ At j o
+changed-is {i} {j} q =
+    let e : i ≡ j = cc in
+    rw (e, placed-is q)
 
 -- at the places that a request does not take, it is an unexpected one
 abbrev pub Expects : Takes → (ℕ → Entry → Answer) → Type 0
@@ -69,22 +74,17 @@ module _ (h : Bytes) (u : List Slot) (w : Takes) (f : ℕ → Entry → Answer) 
       go Two l q = record { refusal = twoRecords; numbered = refused-is q; answer = two-denied h u l f }
       go (At i p) l q = placed i p (takesPlace w p) l refl q
 
--- ---- not refused: the record stands in slot i, at a place that the request takes
-pub record Stands (w : Takes) (h : Bytes) (u : List Slot) (i : ℕ) : Type 0 where
-  pub place : Place
-  pub takes : takesPlace w place ≡ true
-  pub found : lookUp h u ≡ At i place
-
-module _ (h : Bytes) (u : List Slot) (w : Takes) (i : ℕ) where
-  pub stands : decided w (lookUp h u) ≡ Change i → Stands w h u i
+-- ---- not refused: the record was found, at a place that the request takes
+module _ (h : Bytes) (u : List Slot) (w : Takes) (i : ℕ) (o : Place) where
+  pub stands : decided w (lookUp h u) ≡ Change i o → (lookUp h u ≡ At i o) × (takesPlace w o ≡ true)
   unfolding decided
   stands d = go (lookUp h u) refl d
     where
-      placed : (j : ℕ) (p : Place) (b : Bool) → lookUp h u ≡ At j p → takesPlace w p ≡ b → decided w (At j p) ≡ Change i → Stands w h u i
-      placed j p true l t q = record { place = p; takes = t; found = l ∙ ap (λ (k : ℕ). At k p) (changed-is (rw t at q)) }
+      placed : (j : ℕ) (p : Place) (b : Bool) → lookUp h u ≡ At j p → takesPlace w p ≡ b → decided w (At j p) ≡ Change i o → (lookUp h u ≡ At i o) × (takesPlace w o ≡ true)
+      placed j p true l t q = let e : Change j p ≡ Change i o = rw t at q in (l ∙ changed-is e, ap (takesPlace w) (sym (placed-is e)) ∙ t)
       placed j p false l t q = absurd (change-refuse (sym (rw t at q)))
 
-      go : (l : Lookup) → lookUp h u ≡ l → decided w l ≡ Change i → Stands w h u i
+      go : (l : Lookup) → lookUp h u ≡ l → decided w l ≡ Change i o → (lookUp h u ≡ At i o) × (takesPlace w o ≡ true)
       go Absent l q = absurd (change-refuse (sym q))
       go Two l q = absurd (change-refuse (sym q))
       go (At j p) l q = placed j p (takesPlace w p) l refl q
@@ -140,30 +140,31 @@ module _ (used : Bool) (d x : Decision) (e : x ≡ d) where
   unfolding unlessUsed
   refused-before n q = rw (← e, q)
 
-  pub used-refused : (i : ℕ) → x ≡ Change i → used ≡ true → Refuse 5 ≡ unlessUsed used d
-  unfolding unlessUsed
-  used-refused i q y = rw (← e, q, y)
+  module _ (i : ℕ) (p : Place) (q : x ≡ Change i p) where
+    pub used-refused : used ≡ true → Refuse 5 ≡ unlessUsed used d
+    unfolding unlessUsed
+    used-refused y = rw (← e, q, y)
 
-  pub unused-decided : (i : ℕ) → x ≡ Change i → used ≡ false → x ≡ unlessUsed used d
-  unfolding unlessUsed
-  unused-decided i q y = rw (← e, q, y)
+    pub unused-decided : used ≡ false → x ≡ unlessUsed used d
+    unfolding unlessUsed
+    unused-decided y = rw (← e, q, y)
 
 module _ (used : Bool) (d : Decision) where
   -- what was decided before, and whether the new handle is free
-  pub lending-refused : {P : Type 0} (n : ℕ) → unlessUsed used d ≡ Refuse n → (d ≡ Refuse n → P) → ((i : ℕ) → d ≡ Change i → used ≡ true → 5 ≡ n → P) → P
+  pub lending-refused : {P : Type 0} (n : ℕ) → unlessUsed used d ≡ Refuse n → (d ≡ Refuse n → P) → ((i : ℕ) (o : Place) → d ≡ Change i o → used ≡ true → 5 ≡ n → P) → P
   unfolding unlessUsed
   lending-refused {P} n e before after = go used d refl refl e
     where
       go : (b : Bool) (x : Decision) → used ≡ b → d ≡ x → unlessUsed b x ≡ Refuse n → P
       go b (Refuse m) p q e = before (q ∙ e)
-      go true (Change i) p q e = after i q p (refused-is e)
-      go false (Change i) p q e = absurd (change-refuse e)
+      go true (Change i o) p q e = after i o q p (refused-is e)
+      go false (Change i o) p q e = absurd (change-refuse e)
 
-  pub lending-decided : (i : ℕ) → unlessUsed used d ≡ Change i → (used ≡ false) × (d ≡ Change i)
+  pub lending-decided : (i : ℕ) (o : Place) → unlessUsed used d ≡ Change i o → (used ≡ false) × (d ≡ Change i o)
   unfolding unlessUsed
-  lending-decided i e = go used d refl refl e
+  lending-decided i o e = go used d refl refl e
     where
-      go : (b : Bool) (x : Decision) → used ≡ b → d ≡ x → unlessUsed b x ≡ Change i → (used ≡ false) × (d ≡ Change i)
+      go : (b : Bool) (x : Decision) → used ≡ b → d ≡ x → unlessUsed b x ≡ Change i o → (used ≡ false) × (d ≡ Change i o)
       go b (Refuse n) p q e = absurd (change-refuse (sym e))
-      go true (Change j) p q e = absurd (change-refuse (sym e))
-      go false (Change j) p q e = (p, q ∙ e)
+      go true (Change j r) p q e = absurd (change-refuse (sym e))
+      go false (Change j r) p q e = (p, q ∙ e)

@@ -1,9 +1,12 @@
 -- The agent's answer to each kind, outcome by outcome. Assumes nothing.
-use Prim.Native.Nat.{ℕ, _*_, _≤_, _<_}
+use Prim.Native.Nat.{ℕ, _≤_, _<_}
 use mathlib.Core.Path.{_≡_, refl, sym, ap, _∙_}
-use mathlib.Core.List.{List}
+use mathlib.Core.List.{List, [], _∷_}
+use mathlib.Core.Logic.{⊎-elim}
 use mathlib.Core.Bool.{true, false, _||_, true≢false, false≢true}
 use native.Mathlib.Omega.{arith}
+use types.Run.{OneOf}
+use denote.Enum.Declared.{tagOf}
 use borrow.Author.Tests.{lt-ltb, le-ltb, eq-eqb, ne-eqb}
 use lib.Dec.{leb, ltb}
 use lib.ListN.{length, set}
@@ -18,6 +21,7 @@ use Rattle.profile.proofs.Logic.{leb-over, or-parts}
 use Rattle.profile.proofs.Lookup.{lowestEmpty-free}
 use Rattle.slots.specs.declared.place.Place.{Place}
 use Rattle.slots.specs.declared.place.Place.the-variants.{Empty, Reserved, Enabled, Disabled}
+use Rattle.slots.proofs.place.Place.{the-type}
 use Rattle.slots.specs.declared.lookup.Lookup.the-variants.{At}
 use Rattle.slots.specs.LookUp.{lookUp}
 use Rattle.slots.proofs.SlotParts.{length-slots}
@@ -28,7 +32,7 @@ use Rattle.rights.specs.declared.decision.Decision.the-variants.{Refuse,
 use Rattle.rights.specs.Decisions.{takesPlace, awaited, lendable, installed, decided, unlessUsed}
 use Rattle.rights.specs.Serving.{Ready, answerTo}
 use Rattle.rights.proofs.Answers.{Denied}
-use Rattle.rights.proofs.Deciding.{Expects, refuses, Stands, stands, Held, held, lending-refused, lending-decided}
+use Rattle.rights.proofs.Deciding.{Expects, refuses, stands, Held, held, lending-refused, lending-decided}
 
 -- ---- the places that the kinds take
 -- 2: "record not reserved, 6"; 7: "not reserved, 6"
@@ -71,6 +75,10 @@ only-enabled Reserved q = absurd (false≢true q)
 only-enabled Enabled q = refl
 only-enabled Disabled q = absurd (false≢true q)
 
+-- an else behind `let Place::Disabled`
+pub not-disabled : (p : Place) → OneOf (0 ∷ 1 ∷ 2 ∷ []) (tagOf the-type p) → p ≡ Disabled → ⊥
+not-disabled p others q = ⊎-elim (λ e. omega arith) (⊎-elim (λ e. omega arith) (λ e. omega arith)) (rw q at others)
+
 -- ---- by the decision
 module _ (T B h : Bytes) (bytes : Bytes256 T) (r : Ready T B) (d : Decision) where
   abbrev u : List Slot
@@ -86,11 +94,9 @@ module _ (T B h : Bytes) (bytes : Bytes256 T) (r : Ready T B) (d : Decision) whe
     unfolding act
     cancel-refused n q = refuses h u awaited (cancelAt u) n (cancel-expects u) (sym e ∙ q)
 
-    module _ (i : ℕ) (q : d ≡ Change i) where
+    module _ (i : ℕ) (o : Place) (q : d ≡ Change i o) where
       pub held-reserved : Held T h i Reserved
-      held-reserved =
-          let s : Stands awaited h u i = stands h u awaited i (sym e ∙ q) in
-          held T B h bytes r i Reserved (rw (← only-reserved (s .place) (s .takes)) (s .found))
+      held-reserved = let s = stands h u awaited i o (sym e ∙ q) in held T B h bytes r i Reserved (rw (← only-reserved o (s .1)) (s .0))
 
       pub too-long : (x : Right) → word 29 (slotAt T i) < length (x .payload) → Denied 7 (answerTo T (install h x))
       unfolding act
@@ -114,60 +120,49 @@ module _ (T B h : Bytes) (bytes : Bytes256 T) (r : Ready T B) (d : Decision) whe
     unfolding act
     remove-refused n q = refuses h u installed (removeAt u) n (remove-expects u) (sym e ∙ q)
 
-    module _ (i : ℕ) (q : d ≡ Change i) where
-      standing : Stands installed h u i
-      standing = stands h u installed i (sym e ∙ q)
-
-      -- by the place's number
-      held-installed : {P : Type 0} → (Held T h i Enabled → placeOf (slotAt T i) ≡ 2 → P) → (Held T h i Disabled → placeOf (slotAt T i) ≡ 3 → P) → P
-      held-installed {P} f g = go (standing .place) (standing .takes) (standing .found)
+    module _ (i : ℕ) (o : Place) (q : d ≡ Change i o) where
+      -- enabled, or disabled
+      held-installed : {P : Type 0} → (o ≡ Enabled → Held T h i Enabled → P) → (o ≡ Disabled → Held T h i Disabled → P) → P
+      held-installed {P} f g = let s = stands h u installed i o (sym e ∙ q) in go o refl (s .1) (s .0)
         where
-          go : (p : Place) → takesPlace installed p ≡ true → lookUp h u ≡ At i p → P
-          go Empty t l = absurd (false≢true t)
-          go Reserved t l = absurd (false≢true t)
-          go Enabled t l = let w : Held T h i Enabled = held T B h bytes r i Enabled l in f w (w .place-is)
-          go Disabled t l = let w : Held T h i Disabled = held T B h bytes r i Disabled l in g w (w .place-is)
-
-      held-enabled : placeOf (slotAt T i) ≡ 2 → Held T h i Enabled
-      held-enabled n = held-installed (λ w _. w) (λ _ m. absurd (omega arith))
-
-      pub held-disabled : (placeOf (slotAt T i) ≡ 2 → ⊥) → Held T h i Disabled
-      held-disabled n = held-installed (λ _ m. absurd (n m)) (λ w _. w)
+          go : (p : Place) → o ≡ p → takesPlace installed p ≡ true → lookUp h u ≡ At i p → P
+          go Empty p t l = absurd (false≢true t)
+          go Reserved p t l = absurd (false≢true t)
+          go Enabled p t l = f p (held T B h bytes r i Enabled l)
+          go Disabled p t l = g p (held T B h bytes r i Disabled l)
 
       pub has-slot : Has T i
-      has-slot = held-installed (λ w _. w .has) (λ w _. w .has)
-
-      pub slot-lent : part (4288 * i) 4288 T ≡ slotAt T i
-      slot-lent = held-installed (λ w _. w .lent) (λ w _. w .lent)
+      has-slot = held-installed (λ _ w. w .has) (λ _ w. w .has)
 
       -- "An enabled one stays as it is"
-      pub stays : (c : Count) → placeOf (slotAt T i) ≡ 2 → answerTo T (enable h c) ≡ done nothing u
+      pub stays : (c : Count) → (o ≡ Disabled → ⊥) → answerTo T (enable h c) ≡ done nothing u
       unfolding act
-      stays c n = held-enabled n .acted-on (enableAt u h c)
-
-      pub returned : (c : Count) → (placeOf (slotAt T i) ≡ 2 → ⊥)
-          → answerTo T (enable h c) ≡ done nothing (set u i (taken (part 1 10 (slotAt T i)) (enabled (recount c (rightOf (slotAt T i))))))
-      unfolding act
-      returned c n =
-          let w : Held T h i Disabled = held-disabled n in
-          w .acted-on (enableAt u h c) ∙ ap (λ (k : Bytes). done nothing (set u i (taken k (enabled (recount c (rightOf (slotAt T i))))))) (sym (w .handle-is))
+      stays c n = held-installed (λ _ w. w .acted-on (enableAt u h c)) (λ y _. absurd (n y))
 
       pub removes : answerTo T (remove h) ≡ done nothing (set u i empty)
       unfolding act
-      removes = held-installed (λ w _. w .acted-on (removeAt u)) (λ w _. w .acted-on (removeAt u))
+      removes = held-installed (λ _ w. w .acted-on (removeAt u)) (λ _ w. w .acted-on (removeAt u))
+
+    module _ (i : ℕ) (q : d ≡ Change i Disabled) where
+      pub held-disabled : Held T h i Disabled
+      held-disabled = held T B h bytes r i Disabled (stands h u installed i Disabled (sym e ∙ q) .0)
+
+      pub returned : (c : Count) → answerTo T (enable h c) ≡ done nothing (set u i (taken (part 1 10 (slotAt T i)) (enabled (recount c (rightOf (slotAt T i))))))
+      unfolding act
+      returned c =
+          held-disabled .acted-on (enableAt u h c)
+          ∙ ap (λ (k : Bytes). done nothing (set u i (taken k (enabled (recount c (rightOf (slotAt T i))))))) (sym (held-disabled .handle-is))
 
   -- 3 and 4, whatever is given
   module _ (k : Bytes) (e : d ≡ unlessUsed (inUse k u) (decided lendable (lookUp h u))) where
-    held-to-lend : (i : ℕ) → decided lendable (lookUp h u) ≡ Change i → Held T h i Enabled
-    held-to-lend i q =
-        let s : Stands lendable h u i = stands h u lendable i q in
-        held T B h bytes r i Enabled (rw (← only-enabled (s .place) (s .takes)) (s .found))
+    held-to-lend : (i : ℕ) (o : Place) → decided lendable (lookUp h u) ≡ Change i o → Held T h i Enabled
+    held-to-lend i o q = let s = stands h u lendable i o q in held T B h bytes r i Enabled (rw (← only-enabled o (s .1)) (s .0))
 
     lend-refused : (give : Right → Given) (n : ℕ) → d ≡ Refuse n → Denied n (onRecord u h (lendAt u k give))
     lend-refused give n q =
         lending-refused (inUse k u) (decided lendable (lookUp h u)) n (sym e ∙ q)
         (λ before. refuses h u lendable (lendAt u k give) n (lend-expects u k give) before)
-        (λ i at used five. record { refusal = duplicate; numbered = five; answer = held-to-lend i at .acted-on (lendAt u k give) ∙ rw used })
+        (λ i o at used five. record { refusal = duplicate; numbered = five; answer = held-to-lend i o at .acted-on (lendAt u k give) ∙ rw used })
 
     pub retrieve-refused : (n : ℕ) → d ≡ Refuse n → Denied n (answerTo T (retrieve h k))
     unfolding act
@@ -177,12 +172,12 @@ module _ (T B h : Bytes) (bytes : Bytes256 T) (r : Ready T B) (d : Decision) whe
     unfolding act
     query-refused = lend-refused (λ x. theKey (x .key))
 
-    module _ (i : ℕ) (q : d ≡ Change i) where
-      lendable-at : (inUse k u ≡ false) × (decided lendable (lookUp h u) ≡ Change i)
-      lendable-at = lending-decided (inUse k u) (decided lendable (lookUp h u)) i (sym e ∙ q)
+    module _ (i : ℕ) (o : Place) (q : d ≡ Change i o) where
+      lendable-at : (inUse k u ≡ false) × (decided lendable (lookUp h u) ≡ Change i o)
+      lendable-at = lending-decided (inUse k u) (decided lendable (lookUp h u)) i o (sym e ∙ q)
 
       pub held-lendable : Held T h i Enabled
-      held-lendable = held-to-lend i (lendable-at .1)
+      held-lendable = held-to-lend i o (lendable-at .1)
 
       lends : (give : Right → Given) → onRecord u h (lendAt u k give) ≡ done (give (rightOf (slotAt T i))) (set u i (taken k (disabled (rightOf (slotAt T i)))))
       lends give = held-lendable .acted-on (lendAt u k give) ∙ rw (lendable-at .0)

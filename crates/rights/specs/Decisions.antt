@@ -20,7 +20,7 @@ takesPlace w Disabled = w .disabled
 unfoldable pub decided : Takes → Lookup → Decision
 decided w Absent = Refuse 4
 decided w Two = Refuse 8
-decided w (At i p) = if takesPlace w p then Change i else Refuse 6
+decided w (At i p) = if takesPlace w p then Change i p else Refuse 6
 
 -- the places that the kinds take: 2 and 7; 3 and 4; 5 and 6
 abbrev pub awaited : Takes
@@ -35,4 +35,4 @@ installed = record { reserved = false; enabled = true; disabled = true }
 -- kinds 3 and 4: "new handle in any non-empty slot, its own included, 5"
 unfoldable pub unlessUsed : Bool → Decision → Decision
 unlessUsed used (Refuse n) = Refuse n
-unlessUsed used (Change i) = if used then Refuse 5 else Change i
+unlessUsed used (Change i p) = if used then Refuse 5 else Change i p

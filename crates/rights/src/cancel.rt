@@ -1,6 +1,6 @@
 // Kind 7, Handle Removal.
+use crate::decision::AWAITED;
 use crate::decision::Decision;
-use crate::decision::Takes;
 ghost use Rattle.profile.specs.Request.{cancel as cancellation};
 ghost use Rattle.rights.specs.Serving.{Ready, Serves, answerTo};
 
@@ -9,14 +9,9 @@ pub fn cancel(table: &mut [u8], reply: &mut [u8], h: [u8; 10])
     requires { ⌜ Ready (now table) (now reply) ⌝ }
     ensures { λ _. ⌜ Serves 7 (answerTo (now (table .entry)) (cancellation h)) (now (table .entry)) (now (reply .entry)) (now (table .exit)) (now (reply .exit)) ⌝ }
 {
-    let takes = Takes {
-        reserved: true,
-        enabled: false,
-        disabled: false,
-    };
-    match crate::decision::slot_under(table, h, takes) {
+    match crate::decision::slot_under(table, h, AWAITED) {
         Decision::Refuse(status) => replies::writer::reply_status(reply, 7, status),
-        Decision::Change(i) => {
+        Decision::Change(i, _) => {
             changes::clear_slot(table, i);
             replies::writer::reply_status(reply, 7, 0)
         }

@@ -6,10 +6,10 @@ ghost use Rattle.profile.specs.Table.{slotsOf};
 ghost use Rattle.slots.specs.LookUp.{lookUp};
 ghost use Rattle.rights.specs.Decisions.{takesPlace, decided};
 
-// Refused with a status; or the slot to change.
+// Refused with a status; or the slot to change, and the place of its record.
 pub enum Decision {
     Refuse(u8),
-    Change(usize),
+    Change(usize, Place),
 }
 
 // Of which places a kind of request takes a record.
@@ -18,6 +18,27 @@ pub struct Takes {
     pub enabled: bool,
     pub disabled: bool,
 }
+
+// 2: "record not reserved, 6"; 7: "not reserved, 6".
+pub const AWAITED: Takes = Takes {
+    reserved: true,
+    enabled: false,
+    disabled: false,
+};
+
+// 3, 4: "not enabled, 6".
+pub const LENDABLE: Takes = Takes {
+    reserved: false,
+    enabled: true,
+    disabled: false,
+};
+
+// 5, 6: "reserved, 6".
+pub const INSTALLED: Takes = Takes {
+    reserved: false,
+    enabled: true,
+    disabled: true,
+};
 
 // "all but empty have a handle": no record is empty.
 pub fn takes_place(takes: Takes, place: Place) -> bool
@@ -39,7 +60,7 @@ pub fn slot_under(table: &[u8], h: [u8; 10], takes: Takes) -> Decision
         Lookup::Absent => Decision::Refuse(4),
         Lookup::Two => Decision::Refuse(8),
         Lookup::At(i, place) => if takes_place(takes, place) {
-            Decision::Change(i)
+            Decision::Change(i, place)
         } else {
             Decision::Refuse(6)
         },

@@ -1,6 +1,7 @@
 // Kind 5, Rights Enablement.
 use crate::decision::Decision;
-use crate::decision::Takes;
+use crate::decision::INSTALLED;
+use slots::place::Place;
 ghost use Rattle.profile.specs.Request.{enable as enablement};
 ghost use Rattle.rights.specs.Serving.{Ready, Serves, answerTo};
 
@@ -10,19 +11,13 @@ pub fn enable(table: &mut [u8], reply: &mut [u8], h: [u8; 10], count: u16)
     requires { ⌜ Ready (now table) (now reply) ⌝ }
     ensures { λ _. ⌜ Serves 5 (answerTo (now (table .entry)) (enablement h count)) (now (table .entry)) (now (reply .entry)) (now (table .exit)) (now (reply .exit)) ⌝ }
 {
-    let takes = Takes {
-        reserved: false,
-        enabled: true,
-        disabled: true,
-    };
-    match crate::decision::slot_under(table, h, takes) {
+    match crate::decision::slot_under(table, h, INSTALLED) {
         Decision::Refuse(status) => replies::writer::reply_status(reply, 5, status),
-        Decision::Change(i) => {
-            let s = slots::part::slot_at(table, i);
-            if octets::bits::slot_place(s[0]) == 2 {
+        Decision::Change(i, place) => {
+            let Place::Disabled = place else {
                 replies::writer::reply_status(reply, 5, 0);
                 return;
-            }
+            };
             changes::give_back(table, i, count);
             replies::writer::reply_status(reply, 5, 0)
         }

@@ -1,6 +1,6 @@
 // Kind 2, Rights Installation.
+use crate::decision::AWAITED;
 use crate::decision::Decision;
-use crate::decision::Takes;
 ghost use Rattle.profile.specs.Request.{install as installation};
 ghost use Rattle.changes.specs.Change.{rightFrom};
 ghost use Rattle.rights.specs.Serving.{Ready, Sent, Serves, answerTo};
@@ -21,14 +21,9 @@ pub fn install(
     requires { ⌜ Ready (now table) (now reply) × Sent (now frame) at hashes size ⌝ }
     ensures { λ _. ⌜ Serves 2 (answerTo (now (table .entry)) (installation h (rightFrom key count hashes size (now (frame .entry)) at))) (now (table .entry)) (now (reply .entry)) (now (table .exit)) (now (reply .exit)) ⌝ }
 {
-    let takes = Takes {
-        reserved: true,
-        enabled: false,
-        disabled: false,
-    };
-    match crate::decision::slot_under(table, h, takes) {
+    match crate::decision::slot_under(table, h, AWAITED) {
         Decision::Refuse(status) => replies::writer::reply_status(reply, 2, status),
-        Decision::Change(i) => {
+        Decision::Change(i, _) => {
             let room = octets::words::word_at(slots::part::slot_at(table, i), 29) as usize;
             if room < size {
                 replies::writer::reply_status(reply, 2, 7);

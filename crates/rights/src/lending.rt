@@ -1,6 +1,6 @@
 // Lending, what kinds 3 and 4 have in common: the tests, before anything is written.
 use crate::decision::Decision;
-use crate::decision::Takes;
+use crate::decision::LENDABLE;
 ghost use mathlib.Core.Path.{_≡_};
 ghost use Rattle.profile.specs.Slot.{inUse};
 ghost use Rattle.profile.specs.Table.{slotsOf};
@@ -11,13 +11,8 @@ ghost use Rattle.rights.specs.Decisions.{decided, unlessUsed, lendable};
 pub fn slot_to_lend(table: &[u8], h: [u8; 10], k: [u8; 10]) -> Decision
     ensures { λ r. ⌜ r ≡ unlessUsed (inUse k (slotsOf (now (table .entry)))) (decided lendable (lookUp h (slotsOf (now (table .entry))))) ⌝ }
 {
-    let takes = Takes {
-        reserved: false,
-        enabled: true,
-        disabled: false,
-    };
-    let decision = crate::decision::slot_under(table, h, takes);
-    let Decision::Change(_) = decision else {
+    let decision = crate::decision::slot_under(table, h, LENDABLE);
+    let Decision::Change(_, _) = decision else {
         return decision;
     };
     if slots::handle::in_use(table, k) {

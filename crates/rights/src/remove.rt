@@ -1,6 +1,6 @@
 // Kind 6, Rights Removal.
 use crate::decision::Decision;
-use crate::decision::Takes;
+use crate::decision::INSTALLED;
 ghost use Rattle.profile.specs.Request.{remove as removal};
 ghost use Rattle.rights.specs.Serving.{Ready, Serves, answerTo};
 
@@ -9,14 +9,9 @@ pub fn remove(table: &mut [u8], reply: &mut [u8], h: [u8; 10])
     requires { ⌜ Ready (now table) (now reply) ⌝ }
     ensures { λ _. ⌜ Serves 6 (answerTo (now (table .entry)) (removal h)) (now (table .entry)) (now (reply .entry)) (now (table .exit)) (now (reply .exit)) ⌝ }
 {
-    let takes = Takes {
-        reserved: false,
-        enabled: true,
-        disabled: true,
-    };
-    match crate::decision::slot_under(table, h, takes) {
+    match crate::decision::slot_under(table, h, INSTALLED) {
         Decision::Refuse(status) => replies::writer::reply_status(reply, 6, status),
-        Decision::Change(i) => {
+        Decision::Change(i, _) => {
             changes::clear_slot(table, i);
             replies::writer::reply_status(reply, 6, 0)
         }

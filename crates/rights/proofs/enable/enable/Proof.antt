@@ -1,12 +1,11 @@
 -- `rights::enable::enable` meets its contract: refused as it was decided, kept as it is, or enabled again. Assumes nothing.
 use denote.Ref.{now}
-use mathlib.Core.Path.{_≡_, sym, ap, _∙_}
-use Rattle.profile.specs.Table.{placeOf}
+use mathlib.Core.Path.{ap, _∙_}
 use Rattle.profile.specs.Agent.{nothing}
-use Rattle.changes.specs.Change.{slotAt}
 use Rattle.changes.proofs.SlotBytes.{below-256}
 use Rattle.rights.proofs.Answers.{refused-serves, done-serves, kept-serves}
-use Rattle.rights.proofs.Outcomes.{enable-refused, has-slot, slot-lent, held-disabled, stays, returned}
+use Rattle.rights.proofs.Outcomes.{not-disabled, enable-refused, held-disabled, stays, returned}
+use Rattle.rights.specs.declared.decision.Decision.the-variants.{Change}
 use borrow.Author.Needs.{needs}
 use Rattle.rights.proofs.enable.enable.Statement.{statement}
 use Rattle.rights.proofs.enable.enable.Tie as tie
@@ -23,19 +22,8 @@ reply-status-requires c κs = search needs
 enum-known-i : tie.Need-enum-known-i
 enum-known-i c = search needs
 
-slot-at-requires : tie.Need-slot-at-requires
-slot-at-requires c κs =
-    let known = c .before .before .before .before .before .before .before in
-    let start = known .before in
-    let t = now (start .args .table) in
-    let bytes = below-256 t (known .slice-known .given) in
-    has-slot t (now (start .args .reply)) (start .args .h) bytes (start .pre) _ (c .before .before .before .before .slot-under .ensures) _ (c .before .before .i .given .1) .inside
-
-shared-slice-read-slot-place : tie.Need-shared-slice-read-slot-place
-shared-slice-read-slot-place c = search needs
-
-slot-place-requires : tie.Need-slot-place-requires
-slot-place-requires c κs = search needs
+enum-told : tie.Need-enum-told
+enum-told c = search needs
 
 reply-status-requires-2 : tie.Need-reply-status-requires-2
 reply-status-requires-2 c κs = search needs
@@ -48,25 +36,19 @@ same-length-2 c = search needs
 
 returns : tie.Need-returns
 returns c =
-    let known = c .before .before .before .before .before .before .before .before .before .before .before .before .before .before .before in
+    let known = c .before .before .before .before .before .before .before .before .before .before .before in
     let start = known .before in
     let t = now (start .args .table) in
     let bytes = below-256 t (known .slice-known .given) in
-    let e = c .before .before .before .before .before .before .before .before .before .before .before .before .slot-under .ensures in
-    let q = c .before .before .before .before .before .before .before .before .before .before .i .given .1 in
-    let at : placeOf (slotAt t (c .before .before .before .before .before .before .before .before .before .before .i .given .0 .0)) ≡ c .before .before .before .before .before .slot-place .result = ap placeOf (sym (c .before .before .before .before .before .before .before .slot-at .ensures .0 ∙ slot-lent t (now (start .args .reply)) (start .args .h) bytes (start .pre) _ e _ q)) ∙ sym (c .before .before .before .before .before .slot-place .ensures) in
-    kept-serves 5 _ t (now (start .args .reply)) _ bytes (start .pre) (stays t (now (start .args .reply)) (start .args .h) bytes (start .pre) _ e _ q (start .args .count) (at ∙ c .before .before .before .before .if1 .taken)) (c .before .before .reply-status2 .ensures)
+    kept-serves 5 _ t (now (start .args .reply)) _ bytes (start .pre) (stays t (now (start .args .reply)) (start .args .h) bytes (start .pre) _ (c .before .before .before .before .before .before .before .before .slot-under .ensures) _ _ (c .before .before .before .before .before .before .i .given .1) (start .args .count) (not-disabled _ (c .before .before .before .before .match2 .keys2))) (c .before .before .reply-status2 .ensures)
 
 give-back-requires : tie.Need-give-back-requires
 give-back-requires c κs =
-    let known = c .before .before .before .before .before .before .before .before .before .before .before .before in
+    let known = c .before .before .before .before .before .before .before .before .before in
     let start = known .before in
     let t = now (start .args .table) in
     let bytes = below-256 t (known .slice-known .given) in
-    let e = c .before .before .before .before .before .before .before .before .before .slot-under .ensures in
-    let q = c .before .before .before .before .before .before .before .i .given .1 in
-    let at : placeOf (slotAt t (c .before .before .before .before .before .before .before .i .given .0 .0)) ≡ c .before .before .slot-place .result = ap placeOf (sym (c .before .before .before .before .slot-at .ensures .0 ∙ slot-lent t (now (start .args .reply)) (start .args .h) bytes (start .pre) _ e _ q)) ∙ sym (c .before .before .slot-place .ensures) in
-    let w = held-disabled t (now (start .args .reply)) (start .args .h) bytes (start .pre) _ e _ q (λ n. c .before .if1 .left (sym at ∙ n)) in
+    let w = held-disabled t (now (start .args .reply)) (start .args .h) bytes (start .pre) _ (c .before .before .before .before .before .before .slot-under .ensures) _ (c .before .before .before .before .i .given .1 ∙ ap (λ p. Change (c .before .before .before .before .i .given .0 .0) p) (c .before .enum-told .given .1)) in
     (w .has, w .place-is)
 
 reply-status-requires-3 : tie.Need-reply-status-requires-3
@@ -94,14 +76,11 @@ same-length-6 c = search needs
 
 returns-3 : tie.Need-returns-3
 returns-3 c =
-    let known = c .before .before .before .before .before .before .before .before .before .before .before .before .before .before .before .before .before .before .before in
+    let known = c .before .before .before .before .before .before .before .before .before .before .before .before .before .before .before .before in
     let start = known .before in
     let t = now (start .args .table) in
     let bytes = below-256 t (known .slice-known .given) in
-    let e = c .before .before .before .before .before .before .before .before .before .before .before .before .before .before .before .before .slot-under .ensures in
-    let q = c .before .before .before .before .before .before .before .before .before .before .before .before .before .before .i .given .1 in
-    let at : placeOf (slotAt t (c .before .before .before .before .before .before .before .before .before .before .before .before .before .before .i .given .0 .0)) ≡ c .before .before .before .before .before .before .before .before .before .slot-place .result = ap placeOf (sym (c .before .before .before .before .before .before .before .before .before .before .before .slot-at .ensures .0 ∙ slot-lent t (now (start .args .reply)) (start .args .h) bytes (start .pre) _ e _ q)) ∙ sym (c .before .before .before .before .before .before .before .before .before .slot-place .ensures) in
-    done-serves 5 _ t (now (start .args .reply)) _ nothing _ _ (returned t (now (start .args .reply)) (start .args .h) bytes (start .pre) _ e _ q (start .args .count) (λ n. c .before .before .before .before .before .before .before .before .if1 .left (sym at ∙ n))) (c .before .before .before .before .before .before .give-back .ensures) (c .before .before .reply-status3 .ensures)
+    done-serves 5 _ t (now (start .args .reply)) _ nothing _ _ (returned t (now (start .args .reply)) (start .args .h) bytes (start .pre) _ (c .before .before .before .before .before .before .before .before .before .before .before .before .before .slot-under .ensures) _ (c .before .before .before .before .before .before .before .before .before .before .before .i .given .1 ∙ ap (λ p. Change (c .before .before .before .before .before .before .before .before .before .before .before .i .given .0 .0) p) (c .before .before .before .before .before .before .before .before .enum-told .given .1)) (start .args .count)) (c .before .before .before .before .before .before .give-back .ensures) (c .before .before .reply-status3 .ensures)
 
 pub enable-spec : {M : Type 1} → statement M
 enable-spec =
@@ -111,9 +90,7 @@ enable-spec =
     enum-known-status
     reply-status-requires
     enum-known-i
-    slot-at-requires
-    shared-slice-read-slot-place
-    slot-place-requires
+    enum-told
     reply-status-requires-2
     same-length
     same-length-2

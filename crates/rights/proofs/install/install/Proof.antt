@@ -33,7 +33,7 @@ slot-at-requires c κs =
     let start = known .before in
     let t = now (start .args .table) in
     let bytes = below-256 t (known .slice-known .given) in
-    held-reserved t (now (start .args .reply)) (start .args .h) bytes (start .pre .0) _ (c .before .before .before .before .slot-under .ensures) _ (c .before .before .i .given .1) .has .inside
+    held-reserved t (now (start .args .reply)) (start .args .h) bytes (start .pre .0) _ (c .before .before .before .before .slot-under .ensures) _ _ (c .before .before .i .given .1) .has .inside
 
 word-at-requires : tie.Need-word-at-requires
 word-at-requires c κs = search needs
@@ -58,12 +58,12 @@ returns c =
     let bytes = below-256 t (known .slice-known .given) in
     let e = c .before .before .before .before .before .before .before .before .before .before .before .slot-under .ensures in
     let q = c .before .before .before .before .before .before .before .before .before .i .given .1 in
-    let w = held-reserved t (now (start .args .reply)) (start .args .h) bytes (start .pre .0) _ e _ q in
+    let w = held-reserved t (now (start .args .reply)) (start .args .h) bytes (start .pre .0) _ e _ _ q in
     let room : c .before .before .before .before .before .word-at .result ≡ word 29 (slotAt t (c .before .before .before .before .before .before .before .before .before .i .given .0 .0)) = c .before .before .before .before .before .word-at .ensures ∙ ap (word 29) (c .before .before .before .before .before .before .slot-at .ensures .0 ∙ w .lent) in
     let a = start .args in
     let x = rightFrom (a .key) (a .count) (a .hashes) (a .size) (now (a .frame)) (a .at) in
     let size : length (part (a .at + 20 * a .hashes) (a .size) (now (a .frame))) ≡ a .size = length-part (a .at + 20 * a .hashes) (a .size) (now (a .frame)) (omega (arith, start .pre .1 .inside)) in
-    refused-serves 2 _ t (now (start .args .reply)) _ 7 (too-long t (now (start .args .reply)) (start .args .h) bytes (start .pre .0) _ e _ q x (omega (arith, size, room, c .before .before .before .before .if1 .taken))) (c .before .before .reply-status2 .ensures)
+    refused-serves 2 _ t (now (start .args .reply)) _ 7 (too-long t (now (start .args .reply)) (start .args .h) bytes (start .pre .0) _ e _ _ q x (omega (arith, size, room, c .before .before .before .before .if1 .taken))) (c .before .before .reply-status2 .ensures)
 
 store-right-requires : tie.Need-store-right-requires
 store-right-requires c κs =
@@ -73,7 +73,7 @@ store-right-requires c κs =
     let bytes = below-256 t (known .slice-known .given) in
     let e = c .before .before .before .before .before .before .before .before .slot-under .ensures in
     let q = c .before .before .before .before .before .before .i .given .1 in
-    let w = held-reserved t (now (start .args .reply)) (start .args .h) bytes (start .pre .0) _ e _ q in
+    let w = held-reserved t (now (start .args .reply)) (start .args .h) bytes (start .pre .0) _ e _ _ q in
     let sent = start .pre .1 in
     (w .has, w .place-is, sent .few, sent .short, sent .inside)
 
@@ -109,12 +109,12 @@ returns-3 c =
     let bytes = below-256 t (known .slice-known .given) in
     let e = c .before .before .before .before .before .before .before .before .before .before .before .before .before .before .before .slot-under .ensures in
     let q = c .before .before .before .before .before .before .before .before .before .before .before .before .before .i .given .1 in
-    let w = held-reserved t (now (start .args .reply)) (start .args .h) bytes (start .pre .0) _ e _ q in
+    let w = held-reserved t (now (start .args .reply)) (start .args .h) bytes (start .pre .0) _ e _ _ q in
     let room : c .before .before .before .before .before .before .before .before .before .word-at .result ≡ word 29 (slotAt t (c .before .before .before .before .before .before .before .before .before .before .before .before .before .i .given .0 .0)) = c .before .before .before .before .before .before .before .before .before .word-at .ensures ∙ ap (word 29) (c .before .before .before .before .before .before .before .before .before .before .slot-at .ensures .0 ∙ w .lent) in
     let a = start .args in
     let x = rightFrom (a .key) (a .count) (a .hashes) (a .size) (now (a .frame)) (a .at) in
     let size : length (part (a .at + 20 * a .hashes) (a .size) (now (a .frame))) ≡ a .size = length-part (a .at + 20 * a .hashes) (a .size) (now (a .frame)) (omega (arith, start .pre .1 .inside)) in
-    done-serves 2 _ t (now (start .args .reply)) _ nothing _ _ (installs t (now (start .args .reply)) (start .args .h) bytes (start .pre .0) _ e _ q x (omega (arith, size, room, c .before .before .before .before .before .before .before .before .if1 .left))) (c .before .before .before .before .before .before .store-right .ensures) (c .before .before .reply-status3 .ensures)
+    done-serves 2 _ t (now (start .args .reply)) _ nothing _ _ (installs t (now (start .args .reply)) (start .args .h) bytes (start .pre .0) _ e _ _ q x (omega (arith, size, room, c .before .before .before .before .before .before .before .before .if1 .left))) (c .before .before .before .before .before .before .store-right .ensures) (c .before .before .reply-status3 .ensures)
 
 pub install-spec : {M : Type 1} → statement M
 install-spec =

@@ -23,12 +23,12 @@ in-use-requires c κs = search needs
 returns-2 : tie.Need-returns-2
 returns-2 c =
     let before = c .before .before in
-    used-refused _ _ _ (before .before .before .slot-under .ensures) _ (before .enum-told .given .1) (sym (c .before .in-use .ensures) ∙ c .if1 .taken)
+    used-refused _ _ _ (before .before .before .slot-under .ensures) _ _ (before .enum-told .given .1) (sym (c .before .in-use .ensures) ∙ c .if1 .taken)
 
 returns-3 : tie.Need-returns-3
 returns-3 c =
     let before = c .before .before in
-    unused-decided _ _ _ (before .before .before .slot-under .ensures) _ (before .enum-told .given .1) (sym (c .before .in-use .ensures) ∙ c .if1 .left)
+    unused-decided _ _ _ (before .before .before .slot-under .ensures) _ _ (before .enum-told .given .1) (sym (c .before .in-use .ensures) ∙ c .if1 .left)
 
 pub slot-to-lend-spec : {M : Type 1} → statement M
 slot-to-lend-spec =

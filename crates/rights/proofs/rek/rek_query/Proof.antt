@@ -31,7 +31,7 @@ slot-at-requires c κs =
     let start = known .before in
     let t = now (start .args .table) in
     let bytes = below-256 t (known .slice-known .given) in
-    held-lendable t (now (start .args .reply)) (start .args .h) bytes (start .pre) _ (start .args .k) (c .before .before .before .before .before .slot-to-lend .ensures) _ (c .before .before .before .i .given .1) .has .inside
+    held-lendable t (now (start .args .reply)) (start .args .h) bytes (start .pre) _ (start .args .k) (c .before .before .before .before .before .slot-to-lend .ensures) _ _ (c .before .before .before .i .given .1) .has .inside
 
 reply-key-requires : tie.Need-reply-key-requires
 reply-key-requires c κs = search needs
@@ -42,7 +42,7 @@ relabel-requires c κs =
     let start = known .before in
     let t = now (start .args .table) in
     let bytes = below-256 t (known .slice-known .given) in
-    let w = held-lendable t (now (start .args .reply)) (start .args .h) bytes (start .pre) _ (start .args .k) (c .before .before .before .before .before .before .before .before .before .before .slot-to-lend .ensures) _ (c .before .before .before .before .before .before .before .before .i .given .1) in
+    let w = held-lendable t (now (start .args .reply)) (start .args .h) bytes (start .pre) _ (start .args .k) (c .before .before .before .before .before .before .before .before .before .before .slot-to-lend .ensures) _ _ (c .before .before .before .before .before .before .before .before .i .given .1) in
     (w .has, w .place-is)
 
 same-length : tie.Need-same-length
@@ -74,8 +74,8 @@ returns-2 c =
     let e = c .before .before .before .before .before .before .before .before .before .before .before .before .before .slot-to-lend .ensures in
     let q = c .before .before .before .before .before .before .before .before .before .before .before .i .given .1 in
     let i = c .before .before .before .before .before .before .before .before .before .before .before .i .given .0 .0 in
-    let lent = c .before .before .before .before .before .before .before .slot-at .ensures .0 ∙ held-lendable t (now (start .args .reply)) (start .args .h) bytes (start .pre) _ (start .args .k) e _ q .lent in
-    done-serves 4 _ t (now (start .args .reply)) _ (theKey (rightOf (slotAt t i) .key)) _ _ (queries t (now (start .args .reply)) (start .args .h) bytes (start .pre) _ (start .args .k) e _ q) (c .before .before .relabel .ensures)
+    let lent = c .before .before .before .before .before .before .before .slot-at .ensures .0 ∙ held-lendable t (now (start .args .reply)) (start .args .h) bytes (start .pre) _ (start .args .k) e _ _ q .lent in
+    done-serves 4 _ t (now (start .args .reply)) _ (theKey (rightOf (slotAt t i) .key)) _ _ (queries t (now (start .args .reply)) (start .args .h) bytes (start .pre) _ (start .args .k) e _ _ q) (c .before .before .relabel .ensures)
     (c .before .before .before .before .before .before .reply-key .ensures ∙ ap (λ (s : Bytes). over (frame 4 0 (writeGiven (theKey (rightOf s .key)))) (now (start .args .reply))) lent)
 
 pub rek-query-spec : {M : Type 1} → statement M

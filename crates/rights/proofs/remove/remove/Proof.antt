@@ -26,7 +26,7 @@ clear-slot-requires c κs =
     let start = known .before in
     let t = now (start .args .table) in
     let bytes = below-256 t (known .slice-known .given) in
-    has-slot t (now (start .args .reply)) (start .args .h) bytes (start .pre) _ (c .before .before .before .before .slot-under .ensures) _ (c .before .before .i .given .1)
+    has-slot t (now (start .args .reply)) (start .args .h) bytes (start .pre) _ (c .before .before .before .before .slot-under .ensures) _ _ (c .before .before .i .given .1)
 
 reply-status-requires-2 : tie.Need-reply-status-requires-2
 reply-status-requires-2 c κs = search needs
@@ -57,7 +57,7 @@ returns-2 c =
     let start = known .before in
     let t = now (start .args .table) in
     let bytes = below-256 t (known .slice-known .given) in
-    done-serves 6 _ t (now (start .args .reply)) _ nothing _ _ (removes _ _ (start .args .h) bytes (start .pre) _ (c .before .before .before .before .before .before .before .before .before .before .before .slot-under .ensures) _ (c .before .before .before .before .before .before .before .before .before .i .given .1)) (c .before .before .before .before .before .before .clear-slot .ensures) (c .before .before .reply-status2 .ensures)
+    done-serves 6 _ t (now (start .args .reply)) _ nothing _ _ (removes _ _ (start .args .h) bytes (start .pre) _ (c .before .before .before .before .before .before .before .before .before .before .before .slot-under .ensures) _ _ (c .before .before .before .before .before .before .before .before .before .i .given .1)) (c .before .before .before .before .before .before .clear-slot .ensures) (c .before .before .reply-status2 .ensures)
 
 pub remove-spec : {M : Type 1} → statement M
 remove-spec =

@@ -32,7 +32,7 @@ slot-at-requires c κs =
     let start = known .before in
     let t = now (start .args .table) in
     let bytes = below-256 t (known .slice-known .given) in
-    held-lendable t (now (start .args .reply)) (start .args .h) bytes (start .pre) _ (start .args .k) (c .before .before .before .before .before .slot-to-lend .ensures) _ (c .before .before .before .i .given .1) .has .inside
+    held-lendable t (now (start .args .reply)) (start .args .h) bytes (start .pre) _ (start .args .k) (c .before .before .before .before .before .slot-to-lend .ensures) _ _ (c .before .before .before .i .given .1) .has .inside
 
 reply-right-requires : tie.Need-reply-right-requires
 reply-right-requires c κs =
@@ -40,7 +40,7 @@ reply-right-requires c κs =
     let start = known .before in
     let t = now (start .args .table) in
     let bytes = below-256 t (known .slice-known .given) in
-    let w = held-lendable t (now (start .args .reply)) (start .args .h) bytes (start .pre) _ (start .args .k) (c .before .before .before .before .before .before .slot-to-lend .ensures) _ (c .before .before .before .before .i .given .1) in
+    let w = held-lendable t (now (start .args .reply)) (start .args .h) bytes (start .pre) _ (start .args .k) (c .before .before .before .before .before .before .slot-to-lend .ensures) _ _ (c .before .before .before .before .i .given .1) in
     let f = fits-lent _ _ (c .slot-at .ensures .0 ∙ w .lent) (w .fits) in
     (start .pre .room, f .sized, f .few, f .long .1)
 
@@ -50,7 +50,7 @@ relabel-requires c κs =
     let start = known .before in
     let t = now (start .args .table) in
     let bytes = below-256 t (known .slice-known .given) in
-    let w = held-lendable t (now (start .args .reply)) (start .args .h) bytes (start .pre) _ (start .args .k) (c .before .before .before .before .before .before .before .before .before .before .slot-to-lend .ensures) _ (c .before .before .before .before .before .before .before .before .i .given .1) in
+    let w = held-lendable t (now (start .args .reply)) (start .args .h) bytes (start .pre) _ (start .args .k) (c .before .before .before .before .before .before .before .before .before .before .slot-to-lend .ensures) _ _ (c .before .before .before .before .before .before .before .before .i .given .1) in
     (w .has, w .place-is)
 
 same-length : tie.Need-same-length
@@ -82,8 +82,8 @@ returns-2 c =
     let e = c .before .before .before .before .before .before .before .before .before .before .before .before .before .slot-to-lend .ensures in
     let q = c .before .before .before .before .before .before .before .before .before .before .before .i .given .1 in
     let i = c .before .before .before .before .before .before .before .before .before .before .before .i .given .0 .0 in
-    let lent = c .before .before .before .before .before .before .before .slot-at .ensures .0 ∙ held-lendable t (now (start .args .reply)) (start .args .h) bytes (start .pre) _ (start .args .k) e _ q .lent in
-    done-serves 3 _ t (now (start .args .reply)) _ (theRight (rightOf (slotAt t i))) _ _ (retrieves t (now (start .args .reply)) (start .args .h) bytes (start .pre) _ (start .args .k) e _ q) (c .before .before .relabel .ensures)
+    let lent = c .before .before .before .before .before .before .before .slot-at .ensures .0 ∙ held-lendable t (now (start .args .reply)) (start .args .h) bytes (start .pre) _ (start .args .k) e _ _ q .lent in
+    done-serves 3 _ t (now (start .args .reply)) _ (theRight (rightOf (slotAt t i))) _ _ (retrieves t (now (start .args .reply)) (start .args .h) bytes (start .pre) _ (start .args .k) e _ _ q) (c .before .before .relabel .ensures)
     (c .before .before .before .before .before .before .reply-right .ensures ∙ ap (λ (s : Bytes). over (frame 3 0 (writeGiven (theRight (rightOf s)))) (now (start .args .reply))) lent)
 
 pub retrieve-spec : {M : Type 1} → statement M
