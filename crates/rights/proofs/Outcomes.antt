@@ -1,0 +1,222 @@
+-- The agent's answer to each kind, outcome by outcome. Assumes nothing.
+use Prim.Native.Nat.{ℕ, _≤_, _<_}
+use mathlib.Core.Path.{_≡_, refl, sym, ap, _∙_}
+use mathlib.Core.List.{List, [], _∷_}
+use mathlib.Core.Logic.{⊎-elim}
+use mathlib.Core.Bool.{true, false, _||_, true≢false, false≢true}
+use native.Mathlib.Omega.{arith}
+use types.Run.{OneOf}
+use denote.Enum.Declared.{tagOf}
+use borrow.Author.Tests.{lt-ltb, le-ltb, eq-eqb, ne-eqb}
+use lib.Dec.{leb, ltb}
+use lib.ListN.{length, set}
+use Rattle.profile.specs.Bytes.{Bytes, part, word}
+use Rattle.profile.specs.Slot.{Count, Right, recount, reserved, enabled, disabled, Slot, empty, taken, inUse}
+use Rattle.profile.specs.Table.{placeOf, rightOf, slotCount, slotsOf}
+use Rattle.profile.specs.Frame.{parameter, duplicate, noSpace}
+use Rattle.profile.specs.Request.{setup, install, retrieve, query, enable, remove, cancel}
+use Rattle.profile.specs.Agent.{Given, nothing, theRight, theKey, done, onRecord, installAt, lendAt, enableAt, removeAt, cancelAt, act, lowestEmpty}
+use Rattle.profile.proofs.Strings.{Bytes256}
+use Rattle.profile.proofs.Logic.{leb-over, or-parts}
+use Rattle.profile.proofs.Lookup.{lowestEmpty-free}
+use Rattle.slots.specs.declared.place.Place.{Place}
+use Rattle.slots.specs.declared.place.Place.the-variants.{Empty, Reserved, Enabled, Disabled}
+use Rattle.slots.proofs.place.Place.{the-type}
+use Rattle.slots.specs.declared.lookup.Lookup.the-variants.{At}
+use Rattle.slots.specs.LookUp.{lookUp}
+use Rattle.slots.proofs.SlotParts.{length-slots}
+use Rattle.changes.specs.Change.{slotAt, Has}
+use Rattle.changes.proofs.Standing.{free-place}
+use Rattle.rights.specs.declared.decision.Decision.{Decision}
+use Rattle.rights.specs.declared.decision.Decision.the-variants.{Refuse, Change}
+use Rattle.rights.specs.Decisions.{takesPlace, awaited, lendable, installed, decided, unlessUsed}
+use Rattle.rights.specs.Serving.{Ready, answerTo}
+use Rattle.rights.proofs.Answers.{Denied}
+use Rattle.rights.proofs.Deciding.{Expects, refuses, stands, Held, held, lending-refused, lending-decided}
+
+-- ---- the places that the kinds take
+-- 2: "record not reserved, 6"; 7: "not reserved, 6"
+install-expects : (u : List Slot) (h : Bytes) (x : Right) → Expects awaited (installAt u h x)
+install-expects u h x i (reserved n) q = absurd (true≢false q)
+install-expects u h x i (enabled r) q = refl
+install-expects u h x i (disabled r) q = refl
+
+cancel-expects : (u : List Slot) → Expects awaited (cancelAt u)
+cancel-expects u i (reserved n) q = absurd (true≢false q)
+cancel-expects u i (enabled r) q = refl
+cancel-expects u i (disabled r) q = refl
+
+-- 3, 4: "not enabled, 6"
+lend-expects : (u : List Slot) (k : Bytes) (give : Right → Given) → Expects lendable (lendAt u k give)
+lend-expects u k give i (reserved n) q = refl
+lend-expects u k give i (enabled r) q = absurd (true≢false q)
+lend-expects u k give i (disabled r) q = refl
+
+-- 5, 6: "reserved, 6"
+enable-expects : (u : List Slot) (h : Bytes) (c : Count) → Expects installed (enableAt u h c)
+enable-expects u h c i (reserved n) q = refl
+enable-expects u h c i (enabled r) q = absurd (true≢false q)
+enable-expects u h c i (disabled r) q = absurd (true≢false q)
+
+remove-expects : (u : List Slot) → Expects installed (removeAt u)
+remove-expects u i (reserved n) q = refl
+remove-expects u i (enabled r) q = absurd (true≢false q)
+remove-expects u i (disabled r) q = absurd (true≢false q)
+
+only-reserved : (p : Place) → takesPlace awaited p ≡ true → p ≡ Reserved
+only-reserved Empty q = absurd (false≢true q)
+only-reserved Reserved q = refl
+only-reserved Enabled q = absurd (false≢true q)
+only-reserved Disabled q = absurd (false≢true q)
+
+only-enabled : (p : Place) → takesPlace lendable p ≡ true → p ≡ Enabled
+only-enabled Empty q = absurd (false≢true q)
+only-enabled Reserved q = absurd (false≢true q)
+only-enabled Enabled q = refl
+only-enabled Disabled q = absurd (false≢true q)
+
+-- an else behind `let Place::Disabled`
+pub not-disabled : (p : Place) → OneOf (0 ∷ 1 ∷ 2 ∷ []) (tagOf the-type p) → p ≡ Disabled → ⊥
+not-disabled p others q = ⊎-elim (λ e. omega arith) (⊎-elim (λ e. omega arith) (λ e. omega arith)) (rw q at others)
+
+-- ---- by the decision
+module _ (T B h : Bytes) (bytes : Bytes256 T) (r : Ready T B) (d : Decision) where
+  abbrev u : List Slot
+  u = slotsOf T
+
+  -- 2 and 7
+  module _ (e : d ≡ decided awaited (lookUp h u)) where
+    pub install-refused : (x : Right) (n : ℕ) → d ≡ Refuse n → Denied n (answerTo T (install h x))
+    unfolding act
+    install-refused x n q = refuses h u awaited (installAt u h x) n (install-expects u h x) (sym e ∙ q)
+
+    pub cancel-refused : (n : ℕ) → d ≡ Refuse n → Denied n (answerTo T (cancel h))
+    unfolding act
+    cancel-refused n q = refuses h u awaited (cancelAt u) n (cancel-expects u) (sym e ∙ q)
+
+    module _ (i : ℕ) (o : Place) (q : d ≡ Change i o) where
+      pub held-reserved : Held T h i Reserved
+      held-reserved = let s = stands h u awaited i o (sym e ∙ q) in held T B h bytes r i Reserved (rw (← only-reserved o (s .1)) (s .0))
+
+      pub too-long : (x : Right) → word 29 (slotAt T i) < length (x .payload) → Denied 7 (answerTo T (install h x))
+      unfolding act
+      too-long x l = record { refusal = noSpace; numbered = refl; answer = held-reserved .acted-on (installAt u h x) ∙ rw (lt-ltb (word 29 (slotAt T i)) (length (x .payload)) l) }
+
+      pub installs : (x : Right) → length (x .payload) ≤ word 29 (slotAt T i) → answerTo T (install h x) ≡ done nothing (set u i (taken h (enabled x)))
+      unfolding act
+      installs x l = held-reserved .acted-on (installAt u h x) ∙ rw (le-ltb (word 29 (slotAt T i)) (length (x .payload)) l)
+
+      pub cancels : answerTo T (cancel h) ≡ done nothing (set u i empty)
+      unfolding act
+      cancels = held-reserved .acted-on (cancelAt u)
+
+  -- 5 and 6
+  module _ (e : d ≡ decided installed (lookUp h u)) where
+    pub enable-refused : (c : Count) (n : ℕ) → d ≡ Refuse n → Denied n (answerTo T (enable h c))
+    unfolding act
+    enable-refused c n q = refuses h u installed (enableAt u h c) n (enable-expects u h c) (sym e ∙ q)
+
+    pub remove-refused : (n : ℕ) → d ≡ Refuse n → Denied n (answerTo T (remove h))
+    unfolding act
+    remove-refused n q = refuses h u installed (removeAt u) n (remove-expects u) (sym e ∙ q)
+
+    module _ (i : ℕ) (o : Place) (q : d ≡ Change i o) where
+      -- enabled, or disabled
+      held-installed : {P : Type 0} → (o ≡ Enabled → Held T h i Enabled → P) → (o ≡ Disabled → Held T h i Disabled → P) → P
+      held-installed {P} f g = let s = stands h u installed i o (sym e ∙ q) in go o refl (s .1) (s .0)
+        where
+          go : (p : Place) → o ≡ p → takesPlace installed p ≡ true → lookUp h u ≡ At i p → P
+          go Empty p t l = absurd (false≢true t)
+          go Reserved p t l = absurd (false≢true t)
+          go Enabled p t l = f p (held T B h bytes r i Enabled l)
+          go Disabled p t l = g p (held T B h bytes r i Disabled l)
+
+      pub has-slot : Has T i
+      has-slot = held-installed (λ _ w. w .has) (λ _ w. w .has)
+
+      -- "An enabled one stays as it is"
+      pub stays : (c : Count) → (o ≡ Disabled → ⊥) → answerTo T (enable h c) ≡ done nothing u
+      unfolding act
+      stays c n = held-installed (λ _ w. w .acted-on (enableAt u h c)) (λ y _. absurd (n y))
+
+      pub removes : answerTo T (remove h) ≡ done nothing (set u i empty)
+      unfolding act
+      removes = held-installed (λ _ w. w .acted-on (removeAt u)) (λ _ w. w .acted-on (removeAt u))
+
+    module _ (i : ℕ) (q : d ≡ Change i Disabled) where
+      pub held-disabled : Held T h i Disabled
+      held-disabled = held T B h bytes r i Disabled (stands h u installed i Disabled (sym e ∙ q) .0)
+
+      pub returned : (c : Count) → answerTo T (enable h c) ≡ done nothing (set u i (taken (part 1 10 (slotAt T i)) (enabled (recount c (rightOf (slotAt T i))))))
+      unfolding act
+      returned c =
+          held-disabled .acted-on (enableAt u h c)
+          ∙ ap (λ (k : Bytes). done nothing (set u i (taken k (enabled (recount c (rightOf (slotAt T i))))))) (sym (held-disabled .handle-is))
+
+  -- 3 and 4, whatever is given
+  module _ (k : Bytes) (e : d ≡ unlessUsed (inUse k u) (decided lendable (lookUp h u))) where
+    held-to-lend : (i : ℕ) (o : Place) → decided lendable (lookUp h u) ≡ Change i o → Held T h i Enabled
+    held-to-lend i o q = let s = stands h u lendable i o q in held T B h bytes r i Enabled (rw (← only-enabled o (s .1)) (s .0))
+
+    lend-refused : (give : Right → Given) (n : ℕ) → d ≡ Refuse n → Denied n (onRecord u h (lendAt u k give))
+    lend-refused give n q =
+        lending-refused (inUse k u) (decided lendable (lookUp h u)) n (sym e ∙ q)
+        (λ before. refuses h u lendable (lendAt u k give) n (lend-expects u k give) before)
+        (λ i o at used five. record { refusal = duplicate; numbered = five; answer = held-to-lend i o at .acted-on (lendAt u k give) ∙ rw used })
+
+    pub retrieve-refused : (n : ℕ) → d ≡ Refuse n → Denied n (answerTo T (retrieve h k))
+    unfolding act
+    retrieve-refused = lend-refused theRight
+
+    pub query-refused : (n : ℕ) → d ≡ Refuse n → Denied n (answerTo T (query h k))
+    unfolding act
+    query-refused = lend-refused (λ x. theKey (x .key))
+
+    module _ (i : ℕ) (o : Place) (q : d ≡ Change i o) where
+      lendable-at : (inUse k u ≡ false) × (decided lendable (lookUp h u) ≡ Change i o)
+      lendable-at = lending-decided (inUse k u) (decided lendable (lookUp h u)) i o (sym e ∙ q)
+
+      pub held-lendable : Held T h i Enabled
+      held-lendable = held-to-lend i o (lendable-at .1)
+
+      lends : (give : Right → Given) → onRecord u h (lendAt u k give) ≡ done (give (rightOf (slotAt T i))) (set u i (taken k (disabled (rightOf (slotAt T i)))))
+      lends give = held-lendable .acted-on (lendAt u k give) ∙ rw (lendable-at .0)
+
+      -- 3 gives the right, 4 its key
+      pub retrieves : answerTo T (retrieve h k) ≡ done (theRight (rightOf (slotAt T i))) (set u i (taken k (disabled (rightOf (slotAt T i)))))
+      unfolding act
+      retrieves = lends theRight
+
+      pub queries : answerTo T (query h k) ≡ done (theKey (rightOf (slotAt T i) .key)) (set u i (taken k (disabled (rightOf (slotAt T i)))))
+      unfolding act
+      queries = lends (λ x. theKey (x .key))
+
+-- ---- 1, by its tests
+module _ (T B h : Bytes) (n : ℕ) (r : Ready T B) where
+  pub no-length : n ≡ 0 → Denied 2 (answerTo T (setup h n))
+  unfolding act
+  no-length z = record { refusal = parameter; numbered = refl; answer = rw (eq-eqb n 0 z) }
+
+  module _ (some : n ≡ 0 → ⊥) where
+    pub handle-used : inUse h (slotsOf T) ≡ true → Denied 5 (answerTo T (setup h n))
+    unfolding act
+    handle-used y = record { refusal = duplicate; numbered = refl; answer = rw (ne-eqb n 0 some, y) }
+
+    module _ (free : inUse h (slotsOf T) ≡ false) (i : ℕ) (lowest : i ≡ lowestEmpty (slotsOf T)) where
+      pub no-room : (ltb 4096 n || leb (slotCount T) i) ≡ true → Denied 7 (answerTo T (setup h n))
+      unfolding act
+      no-room y = record { refusal = noSpace; numbered = refl; answer = rw (ne-eqb n 0 some, free, length-slots T, ← lowest, y) }
+
+      module _ (room : (ltb 4096 n || leb (slotCount T) i) ≡ false) where
+        below : i < slotCount T
+        below = leb-over (slotCount T) i (or-parts (ltb 4096 n) (leb (slotCount T) i) room .1)
+
+        pub has-room : Has T i
+        has-room = record { whole = r .whole; well = r .well; inside = below }
+
+        pub empty-slot : placeOf (slotAt T i) ≡ 0
+        empty-slot = rw lowest (free-place T (r .whole) (r .well) (lowestEmpty (slotsOf T)) (lowestEmpty-free (slotsOf T) (rw (length-slots T, ← lowest) below)))
+
+        pub sets-up : answerTo T (setup h n) ≡ done nothing (set (slotsOf T) i (taken h (reserved n)))
+        unfolding act
+        sets-up = rw (ne-eqb n 0 some, free, length-slots T, ← lowest, room)
