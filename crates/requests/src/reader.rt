@@ -130,14 +130,14 @@ fn read_list(f: &[u8], n: usize) -> Asked
     if n < 3 {
         return crate::asked::refuse(Why::Parameter);
     }
-    let hashes = wide(f[6]);
-    if hashes > 8 {
+    let count = wide(f[6]);
+    if count > 8 {
         return crate::asked::refuse(Why::Parameter);
     }
-    if n != 3 + 20 * hashes {
+    if n != 3 + 20 * count {
         return crate::asked::refuse(Why::Parameter);
     }
-    crate::asked::with_hashes(f, hashes)
+    crate::asked::with_hashes(f, count)
 }
 
 // "kind not 1 to 9, 3"; kinds 8 and 9 ignore the verdict, as if it were 1.
