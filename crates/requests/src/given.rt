@@ -23,14 +23,14 @@ pub struct Plain {
 fn zero_handle(h: [u8; 10]) -> bool
     ensures { λ r. ⌜ r ≡ allZero h ⌝ }
 {
-    octets::zero::zero_block(&h)
+    octets::zero::all_zero(&h)
 }
 
 // A key is so.
 fn zero_key(k: [u8; 16]) -> bool
     ensures { λ r. ⌜ r ≡ allZero k ⌝ }
 {
-    octets::zero::zero_block(&k)
+    octets::zero::all_zero(&k)
 }
 
 // Hashes or a payload are empty.
