@@ -3,17 +3,17 @@ use mathlib.Core.Path.{_≡_, refl, sym, ap, ap₂, _∙_}
 use mathlib.Core.List.{List}
 use mathlib.Core.Option.{Option, none, some}
 use mathlib.Core.Bool.{Bool, true, false, _&&_, not}
-use Prim.Native.Nat.{ℕ, _+_, _-_, _*_, _/_, _%_, _≤_}
+use Prim.Native.Nat.{ℕ, _+_, _-_, _*_, _/_, _%_}
 use native.Mathlib.Omega.{arith}
 use lib.Dec.{eqb, ltb}
-use lib.ListN.{length, take, drop, length-drop}
+use lib.ListN.{length, drop, length-drop}
 use lib.Seq.{drop-drop, take-all}
 use Rattle.profile.specs.Bytes.{Bytes, if_then_else_, byte, part, word, pieces}
 use Rattle.profile.specs.Slot.{Count}
-use Rattle.profile.specs.Frame.{Kind, Setup, Install, Retrieve, Query, Enable, Remove, Cancel, List', Info, kindOf, lastStatus, isFrame, versionHolds, kindNumber, body, statusIn, readRight, hashCountAt18}
+use Rattle.profile.specs.Frame.{Kind, Setup, Install, Retrieve, Query, Enable, Remove, Cancel, List', Info, kindOf, lastStatus, isFrame, versionHolds, kindNumber, body, statusIn, hashCountAt18}
 use Rattle.profile.specs.Request.{numberOf, fields}
 use Rattle.profile.specs.Agent.{Given, nothing, theRight, theKey, handles, counted}
-use Rattle.profile.specs.Device.{none?, shaped, given, Reply, gave, readSuccess, readReply}
+use Rattle.profile.specs.Device.{none?, shaped, given, gave, readSuccess, readReply}
 use Rattle.profile.proofs.Requests.{kind-number}
 use Rattle.replies.specs.declared.answer.Answer.{Answer}
 use Rattle.replies.specs.declared.answer.Answer.the-variants.{Malformed, Failed, Nothing, Right, Key, Handles, Counted}

@@ -5,10 +5,10 @@ use mathlib.Core.Bool.{Bool, true, false, _&&_, and-assoc}
 use Prim.Native.Nat.{ℕ, suc, _+_, _-_, _*_, _/_, _%_, _≤_, _<_}
 use native.Mathlib.Omega.{arith}
 use lib.Dec.{eqb, leb, ltb}
-use lib.ListN.{length, drop, length-drop}
+use lib.ListN.{length, length-drop}
 use lib.Seq.{getD-drop}
-use borrow.Author.Tests.{eqb-true, eqb-false, leb-true, leb-false, eq-eqb, ne-eqb, lt-ltb, le-ltb, le-leb, lt-leb}
-use Rattle.profile.specs.Bytes.{Bytes, byte, word, from1to}
+use borrow.Author.Tests.{eqb-true, eqb-false, leb-true, leb-false, eq-eqb, ne-eqb, le-ltb, le-leb, lt-leb}
+use Rattle.profile.specs.Bytes.{Bytes, byte, word}
 use Rattle.profile.specs.Frame.{isFrame, versionHolds, body, rightFits, Retrieve, Query, List', Info}
 use Rattle.profile.specs.Device.{none?, shaped}
 use Rattle.profile.proofs.Logic.{and-parts}
@@ -16,15 +16,13 @@ use Rattle.replies.specs.Told.{payloadFrom}
 
 -- ---- tests that say the same
 leb-same : (a b c d : ℕ) → (a ≤ b → c ≤ d) → (c ≤ d → a ≤ b) → leb a b ≡ leb c d
-leb-same a b c d p q = go (leb c d) refl
+leb-same a b c d p q = go (leb a b) (leb c d) refl refl
   where
-    go : (t : Bool) → leb c d ≡ t → leb a b ≡ t
-    go true e = le-leb a b (q (leb-true c d e))
-    go false e = let h : d < c = leb-false c d e in lt-leb a b (go' (leb a b) refl h)
-      where
-        go' : (t : Bool) → leb a b ≡ t → d < c → b < a
-        go' true f h = absurd (omega (arith, p (leb-true a b f)))
-        go' false f h = leb-false a b f
+    go : (s t : Bool) → leb a b ≡ s → leb c d ≡ t → s ≡ t
+    go true true e f = refl
+    go true false e f = absurd (omega (arith, p (leb-true a b e), leb-false c d f))
+    go false true e f = absurd (omega (arith, q (leb-true c d f), leb-false a b e))
+    go false false e f = refl
 
 pub eqb-same : (a b c d : ℕ) → (a ≡ b → c ≡ d) → (c ≡ d → a ≡ b) → eqb a b ≡ eqb c d
 eqb-same a b c d p q = go (eqb c d) refl
@@ -51,8 +49,8 @@ module _ (f : Bytes) where
   pub frame-short : length f < 4 → false ≡ (isFrame f && versionHolds f)
   frame-short h = rw (lt-leb 4 (length f) h)
 
-  pub frame-tests : (n v : ℕ) → 4 ≤ length f → n ≡ word 2 f → v ≡ byte 0 f / 32 → (eqb (length f) (4 + n) && eqb v 1) ≡ (isFrame f && versionHolds f)
-  frame-tests n v h en ev = rw (le-leb 4 (length f) h, en, ev)
+  pub frame-tests : {n v : ℕ} → 4 ≤ length f → n ≡ word 2 f → v ≡ byte 0 f / 32 → (eqb (length f) (4 + n) && eqb v 1) ≡ (isFrame f && versionHolds f)
+  frame-tests h en ev = rw (le-leb 4 (length f) h, en, ev)
 
   -- ---- bodies
   pub none-tests : leb (length f) 4 ≡ none? (body f)
@@ -65,9 +63,9 @@ module _ (f : Bytes) where
   abbrev size : ℕ → ℕ
   size n = length f - 4 - (19 + 20 * n)
 
-  pub right-tests : (n r : ℕ) → 24 ≤ length f → n ≡ byte 22 f / 16 → r ≡ byte 22 f % 16
+  pub right-tests : {n r : ℕ} → 24 ≤ length f → n ≡ byte 22 f / 16 → r ≡ byte 22 f % 16
       → (leb n 8 && eqb r 0 && ltb (23 + 20 * n) (length f) && leb (length f) (23 + 20 * n + 4096)) ≡ shaped Retrieve f
-  right-tests n r h en er =
+  right-tests {n} {r} h en er =
       rw (body-length, body-byte 18, le-leb 20 (length f - 4) (omega arith), ← en, ← er, some, most)
       (and-assoc (leb n 8 && eqb r 0) (ltb 0 (size n)) (leb (size n) 4096))
     where
@@ -84,7 +82,7 @@ module _ (f : Bytes) where
       long = omega (arith, body-length, leb-true 20 (length (body f)) (and-parts (leb 20 (length (body f))) (rightFits 20 8 (body f)) e .0))
 
       tests : ((leb (byte 22 f / 16) 8 && eqb (byte 22 f % 16) 0 && ltb (payloadFrom f) (length f)) ≡ true) × (leb (length f) (payloadFrom f + 4096) ≡ true)
-      tests = and-parts (leb (byte 22 f / 16) 8 && eqb (byte 22 f % 16) 0 && ltb (payloadFrom f) (length f)) (leb (length f) (payloadFrom f + 4096)) (right-tests (byte 22 f / 16) (byte 22 f % 16) long refl refl ∙ e)
+      tests = and-parts (leb (byte 22 f / 16) 8 && eqb (byte 22 f % 16) 0 && ltb (payloadFrom f) (length f)) (leb (length f) (payloadFrom f + 4096)) (right-tests long refl refl ∙ e)
 
   pub key-tests : eqb (length f) 20 ≡ shaped Query f
   key-tests = eqb-same (length f) 20 (length (body f)) 16 (λ h. rw body-length (omega arith)) (λ h. omega (arith, body-length))
@@ -95,8 +93,8 @@ module _ (f : Bytes) where
   pub list-short : length f < 5 → false ≡ shaped List' f
   list-short h = rw (body-length, lt-leb 1 (length f - 4) (omega arith))
 
-  pub list-tests : (r : ℕ) → 5 ≤ length f → r ≡ byte 4 f % 128 → (eqb r 0 && eqb ((length f - 5) % 10) 0 && leb (length f - 5) 150) ≡ shaped List' f
-  list-tests r h er =
+  pub list-tests : {r : ℕ} → 5 ≤ length f → r ≡ byte 4 f % 128 → (eqb r 0 && eqb ((length f - 5) % 10) 0 && leb (length f - 5) 150) ≡ shaped List' f
+  list-tests h er =
       let e : length f - 4 - 1 ≡ length f - 5 = omega arith in
       rw (er, body-length, body-byte 0, le-leb 1 (length f - 4) (omega arith), e)
 

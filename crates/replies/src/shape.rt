@@ -1,8 +1,6 @@
 // The reply reader's tests: "length, version and zero bits are right", and the body "of its kind's shape".
 ghost use mathlib.Core.Path.{_≡_};
 ghost use mathlib.Core.Bool.{_&&_};
-ghost use Prim.Native.Nat.{_≤_};
-ghost use lib.ListN.{length};
 ghost use Rattle.profile.specs.Frame.{isFrame, versionHolds, body, Retrieve, Query, List', Info};
 ghost use Rattle.profile.specs.Device.{none?, shaped};
 

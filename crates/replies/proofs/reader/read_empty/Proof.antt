@@ -12,13 +12,19 @@ malformed-requires : tie.Need-malformed-requires
 malformed-requires c κs = search needs
 
 returns : tie.Need-returns
-returns c = not-empty (c .before .before .before .before .args .answer) (now (c .before .before .before .before .args .f)) (c .before .before .no-body .result) (c .malformed .result) (c .before .before .no-body .ensures) (c .before .if1 .taken) (c .malformed .ensures)
+returns c =
+    let tested = c .before .before in
+    let a = tested .before .before .args in
+    not-empty (a .answer) (now (a .f)) (tested .no-body .ensures) (c .before .if1 .taken) (c .malformed .ensures)
 
 without-key-requires : tie.Need-without-key-requires
 without-key-requires c κs = search needs
 
 returns-2 : tie.Need-returns-2
-returns-2 c = is-empty (c .before .before .before .before .args .answer) (now (c .before .before .before .before .args .f)) (c .before .before .no-body .result) (c .without-key .result) (c .before .before .no-body .ensures) (c .before .if1 .left) (c .without-key .ensures)
+returns-2 c =
+    let tested = c .before .before in
+    let a = tested .before .before .args in
+    is-empty (a .answer) (now (a .f)) (tested .no-body .ensures) (c .before .if1 .left) (c .without-key .ensures)
 
 pub read-empty-spec : {M : Type 1} → statement M
 read-empty-spec =

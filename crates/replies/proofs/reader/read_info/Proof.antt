@@ -2,7 +2,6 @@
 use native.Mathlib.Omega.{arith}
 use denote.Ref.{now}
 use Rattle.profile.specs.Frame.{Info}
-use Rattle.profile.specs.Device.{shaped}
 use Rattle.replies.proofs.Shapes.{info-room}
 use Rattle.replies.proofs.Tellings.{passed, not-shaped, is-shaped}
 use borrow.Author.Needs.{needs}
@@ -16,13 +15,20 @@ malformed-requires : tie.Need-malformed-requires
 malformed-requires c κs = search needs
 
 returns : tie.Need-returns
-returns c = not-shaped Info (now (c .before .before .before .before .args .f)) (c .before .before .is-info .result) (c .malformed .result) (c .before .before .is-info .ensures) (c .before .if1 .taken) (c .malformed .ensures)
+returns c =
+    let tested = c .before .before in
+    not-shaped Info (now (tested .before .before .args .f)) (tested .is-info .ensures) (c .before .if1 .taken) (c .malformed .ensures)
 
 info-in-requires : tie.Need-info-in-requires
-info-in-requires c κs = let r = info-room (now (c .before .before .before .args .f)) (passed (c .before .is-info .result) (shaped Info (now (c .before .before .before .args .f))) (c .before .is-info .ensures) (c .if1 .left)) in omega arith
+info-in-requires c κs =
+    let tested = c .before in
+    let room = info-room (now (tested .before .before .args .f)) (passed (tested .is-info .ensures) (c .if1 .left)) in
+    omega arith
 
 returns-2 : tie.Need-returns-2
-returns-2 c = is-shaped Info (now (c .before .before .before .before .args .f)) (c .before .before .is-info .result) (c .info-in .result) (c .before .before .is-info .ensures) (c .before .if1 .left) (c .info-in .ensures)
+returns-2 c =
+    let tested = c .before .before in
+    is-shaped Info (now (tested .before .before .args .f)) (tested .is-info .ensures) (c .before .if1 .left) (c .info-in .ensures)
 
 pub read-info-spec : {M : Type 1} → statement M
 read-info-spec =

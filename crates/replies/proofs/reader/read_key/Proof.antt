@@ -2,7 +2,6 @@
 use native.Mathlib.Omega.{arith}
 use denote.Ref.{now}
 use Rattle.profile.specs.Frame.{Query}
-use Rattle.profile.specs.Device.{shaped}
 use Rattle.replies.proofs.Shapes.{key-room}
 use Rattle.replies.proofs.Tellings.{passed, not-shaped, is-shaped}
 use borrow.Author.Needs.{needs}
@@ -16,13 +15,20 @@ malformed-requires : tie.Need-malformed-requires
 malformed-requires c κs = search needs
 
 returns : tie.Need-returns
-returns c = not-shaped Query (now (c .before .before .before .before .args .f)) (c .before .before .is-key .result) (c .malformed .result) (c .before .before .is-key .ensures) (c .before .if1 .taken) (c .malformed .ensures)
+returns c =
+    let tested = c .before .before in
+    not-shaped Query (now (tested .before .before .args .f)) (tested .is-key .ensures) (c .before .if1 .taken) (c .malformed .ensures)
 
 key-in-requires : tie.Need-key-in-requires
-key-in-requires c κs = let r = key-room (now (c .before .before .before .args .f)) (passed (c .before .is-key .result) (shaped Query (now (c .before .before .before .args .f))) (c .before .is-key .ensures) (c .if1 .left)) in omega arith
+key-in-requires c κs =
+    let tested = c .before in
+    let room = key-room (now (tested .before .before .args .f)) (passed (tested .is-key .ensures) (c .if1 .left)) in
+    omega arith
 
 returns-2 : tie.Need-returns-2
-returns-2 c = is-shaped Query (now (c .before .before .before .before .args .f)) (c .before .before .is-key .result) (c .key-in .result) (c .before .before .is-key .ensures) (c .before .if1 .left) (c .key-in .ensures)
+returns-2 c =
+    let tested = c .before .before in
+    is-shaped Query (now (tested .before .before .args .f)) (tested .is-key .ensures) (c .before .if1 .left) (c .key-in .ensures)
 
 pub read-key-spec : {M : Type 1} → statement M
 read-key-spec =

@@ -2,7 +2,6 @@
 use native.Mathlib.Omega.{arith}
 use denote.Ref.{now}
 use Rattle.profile.specs.Frame.{List'}
-use Rattle.profile.specs.Device.{shaped}
 use Rattle.replies.proofs.Shapes.{list-room}
 use Rattle.replies.proofs.Tellings.{passed, not-shaped, is-shaped}
 use borrow.Author.Needs.{needs}
@@ -16,13 +15,20 @@ malformed-requires : tie.Need-malformed-requires
 malformed-requires c κs = search needs
 
 returns : tie.Need-returns
-returns c = not-shaped List' (now (c .before .before .before .before .args .f)) (c .before .before .is-list .result) (c .malformed .result) (c .before .before .is-list .ensures) (c .before .if1 .taken) (c .malformed .ensures)
+returns c =
+    let tested = c .before .before in
+    not-shaped List' (now (tested .before .before .args .f)) (tested .is-list .ensures) (c .before .if1 .taken) (c .malformed .ensures)
 
 list-in-requires : tie.Need-list-in-requires
-list-in-requires c κs = let r = list-room (now (c .before .before .before .args .f)) (passed (c .before .is-list .result) (shaped List' (now (c .before .before .before .args .f))) (c .before .is-list .ensures) (c .if1 .left)) in omega arith
+list-in-requires c κs =
+    let tested = c .before in
+    let room = list-room (now (tested .before .before .args .f)) (passed (tested .is-list .ensures) (c .if1 .left)) in
+    omega arith
 
 returns-2 : tie.Need-returns-2
-returns-2 c = is-shaped List' (now (c .before .before .before .before .args .f)) (c .before .before .is-list .result) (c .list-in .result) (c .before .before .is-list .ensures) (c .before .if1 .left) (c .list-in .ensures)
+returns-2 c =
+    let tested = c .before .before in
+    is-shaped List' (now (tested .before .before .args .f)) (tested .is-list .ensures) (c .before .if1 .left) (c .list-in .ensures)
 
 pub read-list-spec : {M : Type 1} → statement M
 read-list-spec =

@@ -18,7 +18,7 @@ sub-size : tie.Need-sub-size
 sub-size c = search needs
 
 returns-2 : tie.Need-returns-2
-returns-2 c = list-tests (now (c .before .before .before .before .args .f)) (c .flag-rest .result) (c .before .before .if1 .left) (c .flag-rest .ensures)
+returns-2 c = list-tests (now (c .before .before .before .before .args .f)) (c .before .before .if1 .left) (c .flag-rest .ensures)
 
 pub is-list-spec : {M : Type 1} → statement M
 is-list-spec =

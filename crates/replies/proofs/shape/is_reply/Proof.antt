@@ -25,7 +25,10 @@ frame-version-requires : tie.Need-frame-version-requires
 frame-version-requires c κs = search needs
 
 returns-2 : tie.Need-returns-2
-returns-2 c = frame-tests (now (c .before .before .before .before .before .before .args .f)) (c .before .before .wide16 .result) (c .frame-version .result) (c .before .before .before .before .if1 .left) (c .before .before .wide16 .ensures ∙ c .before .before .before .word-at .ensures) (c .frame-version .ensures)
+returns-2 c =
+    let said = c .before .before in
+    let long = said .before .before in
+    frame-tests (now (long .before .before .args .f)) (long .if1 .left) (said .wide16 .ensures ∙ said .before .word-at .ensures) (c .frame-version .ensures)
 
 pub is-reply-spec : {M : Type 1} → statement M
 is-reply-spec =

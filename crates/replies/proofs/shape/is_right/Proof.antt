@@ -34,7 +34,10 @@ add-result : tie.Need-add-result
 add-result c = search needs
 
 returns-2 : tie.Need-returns-2
-returns-2 c = right-tests (now (c .before .before .before .before .before .before .before .args .f)) (c .before .before .wide8 .result) (c .count-rest .result) (c .before .before .before .before .before .if1 .left) (c .before .before .wide8 .ensures ∙ c .before .before .before .count-of .ensures) (c .count-rest .ensures)
+returns-2 c =
+    let counted = c .before .before in
+    let long = counted .before .before .before in
+    right-tests (now (long .before .before .args .f)) (long .if1 .left) (counted .wide8 .ensures ∙ counted .before .count-of .ensures) (c .count-rest .ensures)
 
 pub is-right-spec : {M : Type 1} → statement M
 is-right-spec =

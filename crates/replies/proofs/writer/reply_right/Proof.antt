@@ -76,8 +76,6 @@ returns c =
     let start = many .before .before .before .before in
     let a = start .args in
     right-steps (now (a .slot)) (now (a .reply)) (start .pre .1) (start .pre .3) (start .pre .2)
-    (many .slot-hashes .result) (counted .word-at .result) (long .word-at2 .result) (made .right-head .result)
-    (headed .put-head .last .0) (keyed .put-key .last .0) (fronted .put-bytes .last .0) (hashed .put-part .last .0) (last .put-part2 .last .0)
     (many .slot-hashes .ensures) (counted .word-at .ensures) (long .word-at2 .ensures) (made .right-head .ensures)
     (headed .put-head .ensures) (keyed .put-key .ensures) (fronted .put-bytes .ensures) (hashed .put-part .ensures) (last .put-part2 .ensures) (start .pre .0)
 
