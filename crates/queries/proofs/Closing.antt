@@ -7,15 +7,14 @@ use native.Mathlib.Nat.{min-eq-left, min-eq-right}
 use native.Mathlib.Omega.{arith}
 use lib.Dec.{eqb, ltb}
 use lib.ListN.{length, take}
-use lib.Seq.{take-all, take-length, length-take-le}
+use lib.Seq.{take-all, length-take-le}
 use borrow.Author.Tests.{lt-ltb, le-ltb}
 use Rattle.profile.specs.Bytes.{Bytes, over}
 use Rattle.profile.specs.Table.{slotsOf}
 use Rattle.profile.specs.Request.{list}
-use Rattle.profile.specs.Agent.{listed, fitting, firstOf, act}
+use Rattle.profile.specs.Agent.{listed, fitting, act}
 use Rattle.replies.specs.Listed.{holding, listStart}
 use Rattle.replies.proofs.Growing.{list-closed}
-use Rattle.replies.proofs.Frames.{done-frame}
 use Rattle.queries.specs.Query.{Ready, replyTo, mostOf}
 use Rattle.queries.proofs.ListedSlots.{each-take, each-10, few-15}
 
@@ -46,22 +45,22 @@ module _ (t b : Bytes) (ready : Ready t b) (limit : ℕ) (q : List Bytes) where
   pub found-15 : (found : ℕ) → found ≡ length hs → found ≤ 15
   found-15 found e = omega (arith, few)
 
-  -- n handles of the list fit, and the byte in front of them says whether it has more
+  -- n handles of the list fit and are in the buffer, and the byte in front of them says whether the list has more
   closed : (n : ℕ) (more : Bool) → n ≤ length hs → fitting limit (length hs) ≡ n → ltb n (length hs) ≡ more
-      → over (listStart n more) (holding (take n hs) b) ≡ replyTo 8 (list limit q) t b
+      → {d r : Bytes} → d ≡ holding (take n hs) b → r ≡ over (listStart n more) d → r ≡ replyTo 8 (list limit q) t b
   unfolding act
-  closed n more some fits says =
-      list-closed (take n hs) n b (each-take 10 n hs (each-10 t q (ready .whole) (ready .well))) (length-take-le n hs some) (omega (arith, few, ready .room)) more
-      ∙ rw (done-frame 8 (firstOf limit hs) (slotsOf t), fits, says)
+  closed n more some fits says held start =
+      list-closed (take n hs) n b (each-take 10 n hs (each-10 t q (ready .whole) (ready .well))) (length-take-le n hs some) (omega (arith, few, ready .room)) more (slotsOf t) held start
+      ∙ rw (fits, says)
 
   -- the number of handles found, the number that fits, the buffer with the handles, and the buffer closed
   module _ (found most : ℕ) (d : Bytes) (e-found : found ≡ length hs) (e-most : most ≡ mostOf limit) (e-d : d ≡ holding (take most hs) b) where
     pub closed-whole : found ≤ most → (r : Bytes) → r ≡ over (listStart found false) d → r ≡ replyTo 8 (list limit q) t b
     closed-whole h r e =
-        let same-part : take most hs ≡ take (length hs) hs = take-all most hs (omega arith) ∙ sym (take-length hs) in
-        e ∙ rw (e-d, same-part, e-found) (closed (length hs) false (omega arith) (all-fit limit (length hs) few (omega arith)) (le-ltb (length hs) (length hs) (omega arith)))
+        let all-there : take most hs ≡ take found hs = take-all most hs (omega arith) ∙ sym (take-all found hs (omega arith)) in
+        closed found false (omega arith) (all-fit limit (length hs) few (omega arith) ∙ sym e-found) (le-ltb found (length hs) (omega arith)) (rw all-there at e-d) e
 
     pub closed-short : most < found → (r : Bytes) → r ≡ over (listStart most true) d → r ≡ replyTo 8 (list limit q) t b
     closed-short h r e =
         let below : most < length hs = omega arith in
-        e ∙ rw e-d (closed most true (omega arith) (most-fit limit (length hs) few (omega arith) ∙ sym e-most) (lt-ltb most (length hs) below))
+        closed most true (omega arith) (most-fit limit (length hs) few (omega arith) ∙ sym e-most) (lt-ltb most (length hs) below) e-d e

@@ -35,7 +35,7 @@ hold-next hs k h b most each count size fits = if-cases (λ (d : Bytes). d ≡ h
     put p =
         let below : k < most = ltb-true k most p in
         let longer : length (hs ++ (h ∷ [])) ≤ most = omega (arith, length-append hs (h ∷ [])) in
-        rw (take-all most hs (omega arith), take-all most (hs ++ (h ∷ [])) longer) (hold-more hs k b each count (omega arith) h size fits)
+        rw (take-all most hs (omega arith), take-all most (hs ++ (h ∷ [])) longer) (hold-more hs k b each count (omega arith) h size fits refl refl)
 
     left : ltb k most ≡ false → holding (take most hs) b ≡ holding (take most (hs ++ (h ∷ []))) b
     left p = ap (λ (l : List Bytes). holding l b) (sym (take-append-le most hs (h ∷ []) (omega (arith, ltb-false k most p))))

@@ -51,7 +51,8 @@ module _ (t b h : Bytes) where
         refused Disabled f = refl
 
     -- the record's slot is there to be lent, and its payload fits a reply
-    pub info-slot : Ready t b → lookUp h (slotsOf t) ≡ At i p → (i < slotCount t) × (word 29 (part (4288 * i) 4288 t) ≤ 4096)
-    info-slot ready l =
-        let r = record-at t h i p l in
-        (r .below, record-fits t h i (entryOf p (part (4288 * i) 4288 t)) (ready .well) r .long .1)
+    pub info-below : lookUp h (slotsOf t) ≡ At i p → i < slotCount t
+    info-below l = record-at t h i p l .below
+
+    pub info-short : Ready t b → lookUp h (slotsOf t) ≡ At i p → (s : Bytes) → s ≡ part (4288 * i) 4288 t → word 29 s ≤ 4096
+    info-short ready l s es = rw es (record-fits t h i (entryOf p (part (4288 * i) 4288 t)) (ready .well) (record-at t h i p l) .long .1)

@@ -3,7 +3,7 @@ use denote.Ref.{now}
 use mathlib.Core.Path.{sym, _∙_}
 use mathlib.Core.Logic.{⊎-elim}
 use native.Mathlib.Omega.{arith}
-use Rattle.queries.proofs.Informed.{info-absent, info-two, info-enabled, info-other, info-slot}
+use Rattle.queries.proofs.Informed.{info-absent, info-two, info-enabled, info-other, info-below, info-short}
 use borrow.Author.Needs.{needs}
 use Rattle.queries.proofs.info.Statement.{statement}
 use Rattle.queries.proofs.info.Tie as tie
@@ -47,19 +47,18 @@ returns c =
 
 slot-at-requires : tie.Need-slot-at-requires
 slot-at-requires c κs =
-    let k = c .before in
-    let at = k .before .before .before in
+    let at = c .before .before .before .before in
     let looked = at .before .before in
-    let start = looked .before .before .before in
-    info-slot (now (start .args .table)) (now (start .args .reply)) (start .args .h) (at .i .given .0 .0) (at .i .given .0 .1 .0) (start .pre) (sym (looked .look-up .ensures) ∙ at .i .given .1) .0
+    let a = looked .before .before .before .args in
+    omega (arith, info-below (now (a .table)) (now (a .reply)) (a .h) (at .i .given .0 .0) (at .i .given .0 .1 .0) (sym (looked .look-up .ensures) ∙ at .i .given .1))
 
 reply-info-requires : tie.Need-reply-info-requires
 reply-info-requires c κs =
-    let k = c .before .before in
-    let at = k .before .before .before in
+    let at = c .before .before .before .before .before in
     let looked = at .before .before in
     let start = looked .before .before .before in
-    (omega (arith, start .pre .room), c .slot-at .ensures .1, rw (c .slot-at .ensures .0) (info-slot (now (start .args .table)) (now (start .args .reply)) (start .args .h) (at .i .given .0 .0) (at .i .given .0 .1 .0) (start .pre) (sym (looked .look-up .ensures) ∙ at .i .given .1) .1))
+    let a = start .args in
+    (omega (arith, start .pre .room), search needs, info-short (now (a .table)) (now (a .reply)) (a .h) (at .i .given .0 .0) (at .i .given .0 .1 .0) (start .pre) (sym (looked .look-up .ensures) ∙ at .i .given .1) _ (c .slot-at .ensures .0))
 
 same-length-2 : tie.Need-same-length-2
 same-length-2 c = search needs

@@ -25,7 +25,7 @@ is-listed-requires : tie.Need-is-listed-requires Inv-loop μ-loop
 is-listed-requires c κs =
     let l = c .before .before in
     let start = l .before .before .before in
-    (start .pre .1, c .slot-at .ensures .1, few-in-slot (now (start .args .table)) (now (start .args .reply)) (start .pre .0) (l .loop .i) (c .before .loop-test .taken) _ (c .slot-at .ensures .0))
+    (search needs, search needs, few-in-slot (now (start .args .table)) (now (start .args .reply)) (start .pre .0) (l .loop .i) (c .before .loop-test .taken) _ (c .slot-at .ensures .0))
 
 put-next-requires : tie.Need-put-next-requires Inv-loop μ-loop
 put-next-requires c κs =
