@@ -9,7 +9,7 @@ use Rattle.requests.specs.declared.asked.Body.the-variants.{Install, Lis
 use Rattle.requests.specs.declared.asked.Ask.{Ask}
 use Rattle.requests.specs.declared.asked.Ask.the-variants.{No, Yes}
 use Rattle.requests.specs.declared.asked.Asked.{Asked}
-use Rattle.requests.specs.Answer.{whyMeans, bodyMeans, askMeans, meaning, hashesIn, rightIn, InstallEnds, ListEnds, AskEnds, Answers}
+use Rattle.requests.specs.Answer.{whyMeans, bodyMeans, askMeans, meaning, hashesIn, rightIn, InstallEnds, ListEnds, Answers}
 
 module _ (f : Bytes) (r : Asked) (a : Answers f r) where
   asks-so : (x : Ask) → r .ask ≡ x → readRequest f ≡ askMeans f x r

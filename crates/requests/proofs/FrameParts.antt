@@ -1,6 +1,6 @@
 -- Frames written part by part: one part more, and the writer's two ends of a frame. Assumes nothing.
 use Prim.Native.Nat.{ℕ, _+_, _*_, _≤_, _<_}
-use mathlib.Core.Path.{_≡_, refl, sym, ap, _∙_}
+use mathlib.Core.Path.{_≡_, sym, ap, _∙_}
 use mathlib.Core.List.{[], _∷_, _++_, append-assoc}
 use native.Mathlib.Omega.{arith}
 use lib.ListN.{length, length-append}
@@ -9,7 +9,7 @@ use Rattle.octets.specs.Over.{overAt}
 use Rattle.octets.proofs.Overlays.{over-start, over-more}
 use Rattle.profile.specs.Bytes.{Bytes, word-bytes, over}
 use Rattle.profile.specs.Frame.{frame}
-use Rattle.profile.specs.Device.{Written, put}
+use Rattle.profile.specs.Device.{put}
 use Rattle.requests.specs.declared.given.Plain.{Plain}
 use Rattle.requests.specs.Writing.{wrote, started, rightBody}
 

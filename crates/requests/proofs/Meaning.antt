@@ -5,12 +5,12 @@ use mathlib.Core.Option.{Option, none, some}
 use mathlib.Core.Bool.{Bool, true, false, _&&_, not}
 use native.Mathlib.Omega.{arith}
 use lib.Dec.{eqb, leb}
-use lib.ListN.{length, getD, take, drop, length-drop}
+use lib.ListN.{length, getD, drop, length-drop}
 use lib.Seq.{drop-drop, take-all, getD-drop}
-use Rattle.profile.specs.Bytes.{Bytes, if_then_else_, byte, part, word, from1to, pieces}
-use Rattle.profile.specs.Slot.{hashSize, mostHashes, Right}
-use Rattle.profile.specs.Frame.{Kind, Setup, Install, Retrieve, Query, Enable, Remove, Cancel, List', Info, kindOf, kindNumber, isFrame, versionHolds, body, parameter, rightFits, readRight}
-use Rattle.profile.specs.Request.{Request, setup, install, retrieve, query, enable, remove, cancel, list, info, Read, asks, refused, zeroBits, verdict, bodyFits, guarded, fieldsHold, fields, readKind, readRequest}
+use Rattle.profile.specs.Bytes.{Bytes, if_then_else_, byte, part, word, from1to}
+use Rattle.profile.specs.Slot.{hashSize, mostHashes}
+use Rattle.profile.specs.Frame.{Kind, Setup, Install, Retrieve, Query, Enable, Remove, Cancel, List', Info, kindOf, kindNumber, isFrame, versionHolds, body, parameter}
+use Rattle.profile.specs.Request.{install, Read, asks, refused, zeroBits, verdict, bodyFits, guarded, fieldsHold, fields, readKind, readRequest}
 use Rattle.profile.proofs.Logic.{and-parts, not-false, eqb-eq, leb-le, from-1-to-says}
 use Rattle.profile.proofs.Strings.{length-part, length-zeros}
 use Rattle.requests.specs.declared.asked.Why.{Why}
@@ -19,7 +19,7 @@ use Rattle.requests.specs.declared.asked.Body.{Body}
 use Rattle.requests.specs.declared.asked.Body.the-variants as variant
 use Rattle.requests.specs.declared.asked.Ask.the-variants.{Yes}
 use Rattle.requests.specs.declared.asked.Asked.{Asked}
-use Rattle.requests.specs.Asking.{refusal, oneHandle, twoHandles, installation, query as listing, tested, installHolds, ofInstall, listHolds, ofList, ofFields, heeded, ofKind, asked}
+use Rattle.requests.specs.Asking.{refusal, oneHandle, twoHandles, installation, query as listing, installHolds, ofInstall, listHolds, ofList, ofFields, heeded, ofKind, asked}
 use Rattle.requests.specs.Answer.{whyMeans, rightIn, meaning, InstallEnds, ListEnds, AskEnds, Sizes, Answers}
 
 -- two choices by one test, side by side

@@ -4,7 +4,7 @@ use mathlib.Core.Path.{_≡_}
 use lib.ListN.{length, drop}
 use Rattle.profile.specs.Bytes.{Bytes, part, pieces}
 use Rattle.profile.specs.Slot.{hashSize, mostHashes, Right}
-use Rattle.profile.specs.Frame.{Refusal, integrity, parameter, unsupported}
+use Rattle.profile.specs.Frame.{integrity, parameter, unsupported}
 use Rattle.profile.specs.Request.{Request, setup, install, retrieve, query, enable, remove, cancel, list, info, Read, asks, refused, noFrame, readRequest}
 use Rattle.requests.specs.declared.asked.Why.{Why}
 use Rattle.requests.specs.declared.asked.Why.the-variants.{NoFrame, Integrity, Parameter, Unsupported}

@@ -11,7 +11,6 @@ use Rattle.requests.specs.declared.asked.Why.{Why}
 use Rattle.requests.specs.declared.asked.Why.the-variants as why
 use Rattle.requests.specs.declared.asked.Body.{Body}
 use Rattle.requests.specs.declared.asked.Body.the-variants as body
-use Rattle.requests.specs.declared.asked.Ask.{Ask}
 use Rattle.requests.specs.declared.asked.Ask.the-variants as ask
 use Rattle.requests.specs.declared.asked.Asked.{Asked}
 

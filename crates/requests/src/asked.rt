@@ -1,6 +1,6 @@
 // The reader's answer: "an enum of numbers and offsets with the handle and key arrays beside it".
 ghost use mathlib.Core.Path.{_≡_};
-ghost use Prim.Native.Nat.{_+_, _≤_};
+ghost use Prim.Native.Nat.{_≤_};
 ghost use lib.ListN.{length};
 ghost use Rattle.profile.specs.Bytes.{zeros};
 ghost use Rattle.requests.specs.Asking.{refusal, oneHandle, twoHandles, installation, query};

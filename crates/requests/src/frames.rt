@@ -1,7 +1,7 @@
 // Requests written part by part: "201 buffer shorter than the frame", and else the frame with the verdict 1 and the rest as found.
 ghost use mathlib.Core.Path.{_≡_};
 ghost use mathlib.Core.List.{_∷_, [], _++_};
-ghost use Prim.Native.Nat.{_+_, _≤_, _<_};
+ghost use Prim.Native.Nat.{_≤_, _<_};
 ghost use lib.ListN.{length};
 ghost use Rattle.octets.specs.Over.{overAt};
 ghost use Rattle.profile.specs.Bytes.{word-bytes};

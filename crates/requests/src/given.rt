@@ -1,9 +1,6 @@
 // The fields that the request writer is given, and the tests on them, which give 202.
 ghost use mathlib.Core.Path.{_≡_};
-ghost use mathlib.Core.Bool.{_&&_};
-ghost use Prim.Native.Nat.{_/_, _%_};
 ghost use lib.ListN.{length};
-ghost use lib.Dec.{eqb, leb};
 ghost use Rattle.profile.specs.Bytes.{allZero, from1to};
 ghost use Rattle.profile.specs.Frame.{kindOf};
 ghost use Rattle.profile.specs.Device.{none?, wholeHashes};
@@ -19,21 +16,21 @@ pub struct Plain {
     pub limit: u16,
 }
 
-// A handle is "not empty or zero".
+// Whether a handle that the kind lacks is zero.
 fn zero_handle(h: [u8; 10]) -> bool
     ensures { λ r. ⌜ r ≡ allZero h ⌝ }
 {
     octets::zero::all_zero(&h)
 }
 
-// A key is so.
+// Whether a key that the kind lacks is zero.
 fn zero_key(k: [u8; 16]) -> bool
     ensures { λ r. ⌜ r ≡ allZero k ⌝ }
 {
     octets::zero::all_zero(&k)
 }
 
-// Hashes or a payload are empty.
+// Whether hashes or a payload that the kind lacks are empty.
 fn empty(s: &[u8]) -> bool
     ensures { λ r. ⌜ r ≡ none? (now (s .entry)) ⌝ }
 {
@@ -54,7 +51,7 @@ fn payload_fits(s: &[u8]) -> bool
     (0 < s.len()) & (s.len() <= 4096)
 }
 
-// "kind not 1 to 9 .. or a field that the kind lacks and that is not empty or zero" is refused.
+// "kind not 1 to 9 .. or a field that the kind lacks and that is not empty or zero" is refused: whether none of it holds.
 pub fn kind_allows(kind: u8, p: Plain, hashes: &[u8], payload: &[u8]) -> bool
     ensures { λ r. ⌜ r ≡ kindAllows (kindOf kind) (fieldsOf p (now (hashes .entry)) (now (payload .entry))) ⌝ }
 {

@@ -1,7 +1,6 @@
 // The request reader: "104, then the tests for all kinds, then the field tests of kinds 2 and 8".
 ghost use mathlib.Core.Path.{_≡_};
-ghost use mathlib.Core.Bool.{_&&_};
-ghost use Prim.Native.Nat.{_+_, _<_, _≤_};
+ghost use Prim.Native.Nat.{_+_, _≤_};
 ghost use lib.ListN.{length};
 ghost use lib.Dec.{eqb, leb};
 ghost use Rattle.profile.specs.Frame.{kindOf};
@@ -184,7 +183,8 @@ fn read_frame(f: &[u8]) -> Asked
     )
 }
 
-// "A frame is either a request with its fields or exactly one refusal", for every byte string.
+// "A frame is either a request with its fields or exactly one refusal", for every byte string; callers take the
+// answer apart by let .. else.
 pub fn read_request(f: &[u8]) -> Asked
     ensures { λ r. ⌜ Answers (now (f .entry)) r ⌝ }
 {

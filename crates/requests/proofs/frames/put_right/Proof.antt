@@ -1,14 +1,12 @@
 -- `requests::frames::put_right` meets its contract: part behind part. Assumes nothing.
-use mathlib.Core.Path.{_≡_, refl}
+use mathlib.Core.Path.{_≡_}
 use mathlib.Core.List.{[], _∷_, _++_}
-use Prim.Native.Nat.{_+_}
 use native.Mathlib.Omega.{arith}
 use lib.ListN.{length, length-append}
 use denote.Ref.{now}
-use Rattle.requests.proofs.FrameParts.{then-part, frame-short, frame-whole}
+use Rattle.requests.proofs.FrameParts.{then-part}
 use Rattle.octets.specs.Over.{overAt}
 use Rattle.profile.specs.Bytes.{Bytes, word-bytes}
-use Rattle.requests.specs.Writing.{started}
 use borrow.Author.Needs.{needs}
 use Rattle.requests.proofs.frames.put_right.Statement.{statement}
 use Rattle.requests.proofs.frames.put_right.Tie as tie

@@ -1,9 +1,9 @@
 -- `requests::frames::write_hashes` meets its contract: part behind part. Assumes nothing.
-use mathlib.Core.Path.{_≡_, refl}
+use mathlib.Core.Path.{_≡_}
 use mathlib.Core.List.{[], _∷_, _++_}
 use Prim.Native.Nat.{_+_}
 use native.Mathlib.Omega.{arith}
-use lib.ListN.{length, length-append}
+use lib.ListN.{length}
 use denote.Ref.{now}
 use Rattle.requests.proofs.FrameParts.{then-part, frame-short, frame-whole}
 use Rattle.octets.specs.Over.{overAt}

@@ -1,7 +1,5 @@
 -- `requests::frames::write_one` meets its contract. Assumes nothing.
-use mathlib.Core.Path.{_≡_}
 use native.Mathlib.Omega.{arith}
-use lib.ListN.{length}
 use denote.Ref.{now}
 use Rattle.requests.proofs.FrameParts.{frame-short, frame-whole}
 use borrow.Author.Needs.{needs}
