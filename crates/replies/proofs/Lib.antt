@@ -1,9 +1,3 @@
--- the writer
 pub mod Frames
 pub mod Growing
 pub mod WellSlots
--- the reader
-pub mod Shapes
-pub mod Tellings
-pub mod Meanings
-pub mod ReadBack

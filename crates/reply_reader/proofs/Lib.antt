@@ -1,0 +1,4 @@
+pub mod Shapes
+pub mod Tellings
+pub mod Meanings
+pub mod ReadBack

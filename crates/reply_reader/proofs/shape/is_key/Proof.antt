@@ -1,0 +1,11 @@
+-- `reply_reader::shape::is_key` meets its contract. Assumes nothing.
+use denote.Ref.{now}
+use Rattle.reply_reader.proofs.Shapes.{key-tests}
+use Rattle.reply_reader.proofs.shape.is_key.Statement.{statement}
+use Rattle.reply_reader.proofs.shape.is_key.Tie as tie
+
+returns : tie.Need-returns
+returns c = key-tests (now (c .args .f))
+
+pub is-key-spec : {M : Type 1} → statement M
+is-key-spec = tie.close (tie.spec returns)

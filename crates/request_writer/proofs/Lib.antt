@@ -1,0 +1,3 @@
+pub mod FrameParts
+pub mod Allowed
+pub mod ReadBack

@@ -1,0 +1,46 @@
+-- `request_writer::frames::put_handle` meets its contract: the handle stands behind the head. Assumes nothing.
+use mathlib.Core.Path.{_≡_, refl}
+use mathlib.Core.List.{[]}
+use native.Mathlib.Omega.{arith}
+use lib.ListN.{length}
+use denote.Ref.{now}
+use Rattle.request_writer.proofs.FrameParts.{part-more}
+use borrow.Author.Needs.{needs}
+use Rattle.request_writer.proofs.frames.put_handle.Statement.{statement}
+use Rattle.request_writer.proofs.frames.put_handle.Tie as tie
+
+frame-start-requires : tie.Need-frame-start-requires
+frame-start-requires c κs = search needs
+
+slice-aggregate-put-bytes : tie.Need-slice-aggregate-put-bytes
+slice-aggregate-put-bytes c = search needs
+
+put-bytes-requires : tie.Need-put-bytes-requires
+put-bytes-requires c κs = search needs
+
+slice-aggregate-put-bytes-2 : tie.Need-slice-aggregate-put-bytes-2
+slice-aggregate-put-bytes-2 c = search needs
+
+put-bytes-requires-2 : tie.Need-put-bytes-requires-2
+put-bytes-requires-2 c κs = search needs
+
+same-length : tie.Need-same-length
+same-length c = search needs
+
+returns : tie.Need-returns
+returns c =
+    let a = c .before .before .before .before .before .before .before .before .before .before .before .before .args in
+    let h : length (a .t4) ≡ 10 = search needs in
+    cc (part-more (a .kind) (a .n) [] (a .t4) (now (a .out)) 4 refl (omega arith))
+
+pub put-handle-spec : {M : Type 1} → statement M
+put-handle-spec =
+    tie.close
+    (tie.spec
+    frame-start-requires
+    slice-aggregate-put-bytes
+    put-bytes-requires
+    slice-aggregate-put-bytes-2
+    put-bytes-requires-2
+    same-length
+    returns)

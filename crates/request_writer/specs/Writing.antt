@@ -1,0 +1,39 @@
+-- The request writer's fields as the profile has them, and what the parts of the writer do.
+use Prim.Native.Nat.{ℕ, _*_}
+use mathlib.Core.List.{_∷_, _++_}
+use mathlib.Core.Option.{Option, none, some}
+use mathlib.Core.Bool.{Bool, false}
+use Rattle.profile.specs.Bytes.{Bytes, word-bytes}
+use Rattle.profile.specs.Frame.{Kind, frameHead}
+use Rattle.profile.specs.Device.{Fields, kindHolds, Written}
+use Rattle.request_writer.specs.declared.given.Plain.{Plain}
+
+abbrev pub fieldsOf : Plain → Bytes → Bytes → Fields
+fieldsOf p hashes payload =
+    record {
+      handle = p .handle;
+      new = p .new;
+      key = p .key;
+      room = p .room;
+      count = p .count;
+      limit = p .limit;
+      hashes = hashes;
+      payload = payload;
+    }
+
+-- the kind's own tests, which no other number passes
+unfoldable pub kindAllows : Option Kind → Fields → Bool
+kindAllows none f = false
+kindAllows (some k) f = kindHolds k f
+
+-- a number, and the buffer afterwards
+abbrev pub wrote : ℕ → Bytes → Written
+wrote n buffer = record { number = n; buffer = buffer }
+
+-- a head with the verdict 1 and the body length n, and what of the body follows it
+abbrev pub started : ℕ → ℕ → Bytes → Bytes
+started kind n b = frameHead kind ∷ 128 ∷ word-bytes n ++ b
+
+-- the body of kind 2 with n hashes
+abbrev pub rightBody : Plain → ℕ → Bytes → Bytes → Bytes
+rightBody p n hashes payload = p .handle ++ (p .key ++ (word-bytes (p .count) ++ ((16 * n) ∷ (hashes ++ payload))))

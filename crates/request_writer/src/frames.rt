@@ -1,0 +1,121 @@
+// Requests written part by part: "201 buffer shorter than the frame", and else the frame with the verdict 1 and the rest as found.
+ghost use mathlib.Core.Path.{_≡_};
+ghost use mathlib.Core.List.{_∷_, [], _++_};
+ghost use Prim.Native.Nat.{_≤_, _<_};
+ghost use lib.ListN.{length};
+ghost use Rattle.octets.specs.Over.{overAt};
+ghost use Rattle.profile.specs.Bytes.{word-bytes};
+ghost use Rattle.profile.specs.Frame.{frame};
+ghost use Rattle.profile.specs.Device.{put};
+ghost use Rattle.request_writer.specs.Writing.{wrote, started, rightBody};
+use crate::given::Plain;
+
+// The head of a body of n bytes, and the handle that stands first in it.
+fn put_handle(out: &mut [u8], kind: u8, n: u16, handle: [u8; 10])
+    requires { ⌜ (kind < 32) × (14 ≤ length (now out)) ⌝ }
+    ensures { λ _. ⌜ now (out .exit) ≡ overAt 0 (started kind n handle) (now (out .entry)) ⌝ }
+{
+    let head = octets::put::frame_start(kind, 128, n);
+    octets::put::put_bytes(out, 0, &head);
+    octets::put::put_bytes(out, 4, &handle);
+}
+
+// A number of 16 bits and a hash count, as they stand in front of the hashes of kinds 2 and 8.
+fn counted(word: u16, hashes: u8) -> [u8; 3]
+    ensures { λ r. ⌜ r ≡ word-bytes word ++ (hashes ∷ []) ⌝ }
+{
+    let high = octets::words::high_of(word);
+    let low = octets::words::low_of(word);
+    [high, low, hashes]
+}
+
+// "handle (10)".
+pub fn write_one(out: &mut [u8], kind: u8, handle: [u8; 10]) -> u16
+    requires { ⌜ kind < 32 ⌝ }
+    ensures { λ r. ⌜ wrote r (now (out .exit)) ≡ put (frame kind 128 handle) (now (out .entry)) ⌝ }
+{
+    if out.len() < 14 {
+        return 201;
+    }
+    put_handle(out, kind, 10, handle);
+    0
+}
+
+// "handle, new handle (20)".
+pub fn write_two(out: &mut [u8], kind: u8, handle: [u8; 10], new: [u8; 10]) -> u16
+    requires { ⌜ kind < 32 ⌝ }
+    ensures { λ r. ⌜ wrote r (now (out .exit)) ≡ put (frame kind 128 (handle ++ new)) (now (out .entry)) ⌝ }
+{
+    if out.len() < 24 {
+        return 201;
+    }
+    put_handle(out, kind, 20, handle);
+    octets::put::put_bytes(out, 14, &new);
+    0
+}
+
+// "handle, length 16 bits (12 bytes)", and "handle, count (12)".
+pub fn write_word(out: &mut [u8], kind: u8, handle: [u8; 10], word: u16) -> u16
+    requires { ⌜ kind < 32 ⌝ }
+    ensures { λ r. ⌜ wrote r (now (out .exit)) ≡ put (frame kind 128 (handle ++ word-bytes word)) (now (out .entry)) ⌝ }
+{
+    if out.len() < 16 {
+        return 201;
+    }
+    put_handle(out, kind, 12, handle);
+    octets::put::put_word(out, 14, word);
+    0
+}
+
+// "limit 16 bits, hash count 8 bits, hashes", with n hashes.
+pub fn write_hashes(out: &mut [u8], limit: u16, n: u8, hashes: &[u8]) -> u16
+    requires { ⌜ length (now hashes) ≤ 160 ⌝ }
+    ensures { λ r. ⌜ wrote r (now (out .exit)) ≡ put (frame 8 128 (word-bytes limit ++ (n ∷ now (hashes .entry)))) (now (out .entry)) ⌝ }
+{
+    let size = 3 + hashes.len();
+    if out.len() < 4 + size {
+        return 201;
+    }
+    let head = octets::put::frame_start(8, 128, size as u16);
+    octets::put::put_bytes(out, 0, &head);
+    let three = counted(limit, n);
+    octets::put::put_bytes(out, 4, &three);
+    octets::put::put_bytes(out, 7, hashes);
+    0
+}
+
+// Handle, key, count and hash count of kind 2, in front of its hashes; n is the byte of the hash count.
+fn put_right(out: &mut [u8], size: u16, handle: [u8; 10], key: [u8; 16], count: u16, n: u8)
+    requires { ⌜ 33 ≤ length (now out) ⌝ }
+    ensures { λ _. ⌜ now (out .exit) ≡ overAt 0 (started 2 size (handle ++ key ++ (word-bytes count ++ (n ∷ [])))) (now (out .entry)) ⌝ }
+{
+    put_handle(out, 2, size, handle);
+    octets::put::put_bytes(out, 14, &key);
+    let three = counted(count, n);
+    octets::put::put_bytes(out, 30, &three);
+}
+
+// "handle, key, count 16 bits, hash count 4 bits, 4 zero bits, hashes, payload", with n hashes.
+pub fn write_right(out: &mut [u8], p: Plain, n: u8, hashes: &[u8], payload: &[u8]) -> u16
+    requires { ⌜ (n < 16) × ((length (now hashes) ≤ 160) × (length (now payload) ≤ 4096)) ⌝ }
+    ensures { λ r. ⌜ wrote r (now (out .exit)) ≡ put (frame 2 128 (rightBody p n (now (hashes .entry)) (now (payload .entry)))) (now (out .entry)) ⌝ }
+{
+    let behind = 33 + hashes.len();
+    let end = behind + payload.len();
+    if out.len() < end {
+        return 201;
+    }
+    let handle = p.handle;
+    let key = p.key;
+    put_right(
+        out,
+        (end - 4) as u16,
+        handle,
+        key,
+        p.count,
+        octets::bits::count_byte(n),
+    );
+    octets::put::put_bytes(out, 33, hashes);
+    octets::put::put_bytes(out, behind, payload);
+    0
+}

@@ -1,0 +1,41 @@
+// The request writer: 202, then 201, then the frame.
+ghost use mathlib.Core.Path.{_≡_};
+ghost use mathlib.Core.Bool.{true, _&&_};
+ghost use Rattle.profile.specs.Frame.{kindOf};
+ghost use Rattle.profile.specs.Device.{wholeHashes, writeKind, write};
+ghost use Rattle.request_writer.specs.Writing.{fieldsOf, kindAllows, wrote};
+use crate::given::Plain;
+
+// The parts of each kind, once its fields are allowed.
+fn write_kind(kind: u8, p: Plain, hashes: &[u8], payload: &[u8], out: &mut [u8]) -> u16
+    requires { ⌜ (wholeHashes (now hashes) && kindAllows (kindOf kind) (fieldsOf p (now hashes) (now payload))) ≡ true ⌝ }
+    ensures { λ r. ⌜ wrote r (now (out .exit)) ≡ writeKind (kindOf kind) (fieldsOf p (now (hashes .entry)) (now (payload .entry))) (now (out .entry)) ⌝ }
+{
+    let handle = p.handle;
+    let new = p.new;
+    let n = (hashes.len() / 20) as u8;
+    match kind {
+        1 => crate::frames::write_word(out, 1, handle, p.room),
+        2 => crate::frames::write_right(out, p, n, hashes, payload),
+        3 => crate::frames::write_two(out, 3, handle, new),
+        4 => crate::frames::write_two(out, 4, handle, new),
+        5 => crate::frames::write_word(out, 5, handle, p.count),
+        6 => crate::frames::write_one(out, 6, handle),
+        7 => crate::frames::write_one(out, 7, handle),
+        8 => crate::frames::write_hashes(out, p.limit, n, hashes),
+        9 => crate::frames::write_one(out, 9, handle),
+        _ => 202,
+    }
+}
+
+// "The writer takes a kind and fields, writes the verdict as 1 .. and refuses, in order: 202 ..; 201 buffer shorter than the frame."
+pub fn write_request(kind: u8, p: Plain, hashes: &[u8], payload: &[u8], out: &mut [u8]) -> u16
+    ensures { λ r. ⌜ wrote r (now (out .exit)) ≡ write kind (fieldsOf p (now (hashes .entry)) (now (payload .entry))) (now (out .entry)) ⌝ }
+{
+    let whole = crate::given::whole_hashes(hashes);
+    let allowed = whole & crate::given::kind_allows(kind, p, hashes, payload);
+    if !allowed {
+        return 202;
+    }
+    write_kind(kind, p, hashes, payload, out)
+}
