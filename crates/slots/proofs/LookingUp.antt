@@ -71,11 +71,11 @@ pub record Stands (h : Bytes) (t : List Slot) (i : ℕ) (e : Entry) (d : Slot) :
   pub below : i < length t
   pub there : getD t i d ≡ taken h e
 
+absent-one : (i : ℕ) (e : Entry) → absent ≡ one i e → ⊥
+absent-one i e q = let z : _≡_ {A = ℕ} 0 1 = cc in omega arith
+
 stands-next : (h : Bytes) (s : Slot) (t : List Slot) (i : ℕ) (e : Entry) (d : Slot) → (f : Found) → ((j : ℕ) → f ≡ one j e → Stands h t j e d) → next f ≡ one i e → Stands h (s ∷ t) i e d
-stands-next h s t i e d absent g q = absurd (absent-one q)
-  where
-    absent-one : absent ≡ one i e → ⊥
-    absent-one p = let z : _≡_ {A = ℕ} 0 1 = cc in omega arith
+stands-next h s t i e d absent g q = absurd (absent-one i e q)
 stands-next h s t i e d (one j x) g q =
     let ei : suc j ≡ i = cc in
     let ex : x ≡ e = cc in
@@ -83,10 +83,7 @@ stands-next h s t i e d (one j x) g q =
     rw (← ei) (record { below = omega (arith, r .below); there = r .there })
 
 pub found-stands : (h : Bytes) (t : List Slot) (i : ℕ) (e : Entry) (d : Slot) → find h t ≡ one i e → Stands h t i e d
-found-stands h [] i e d q = absurd (absent-one q)
-  where
-    absent-one : absent ≡ one i e → ⊥
-    absent-one p = let z : _≡_ {A = ℕ} 0 1 = cc in omega arith
+found-stands h [] i e d q = absurd (absent-one i e q)
 found-stands h (empty ∷ t) i e d q = stands-next h empty t i e d (find h t) (λ j. found-stands h t j e d) q
 found-stands h (taken k x ∷ t) i e d q = go (λ j. found-stands h t j e d)
   where

@@ -1,8 +1,8 @@
 -- The hashes of a record against those of a query. Assumes nothing.
 use Prim.Native.Nat.{ℕ, zero, suc, _+_, _*_, _≤_, _<_}
-use mathlib.Core.Path.{_≡_, refl, ap, _∙_}
+use mathlib.Core.Path.{_≡_, refl}
 use mathlib.Core.List.{List, [], _∷_}
-use mathlib.Core.Bool.{Bool, true, false, _||_}
+use mathlib.Core.Bool.{Bool}
 use native.Mathlib.Nat.{not-suc-le-zero}
 use lib.ListN.{length, drop, drop-of-length-le}
 use Rattle.profile.specs.Bytes.{Bytes, part, same, any, if_then_else_}
@@ -12,26 +12,6 @@ use Rattle.profile.proofs.Strings.{length-pieces}
 use Rattle.octets.proofs.Parts.{part-drop}
 use Rattle.slots.proofs.SlotParts.{pieces-step}
 use Rattle.slots.proofs.Unpacking.{unpack-empty, unpack-reserved, unpack-enabled, unpack-disabled}
-
--- ---- some x of xs and some y of ys agree, whichever is looked through first
-module _ {A B : Type 0} (f : A → B → Bool) where
-  any-none : (xs : List A) → any (λ x. any (f x) []) xs ≡ false
-  any-none [] = refl
-  any-none (x ∷ xs) = any-none xs
-
-  any-cons : (xs : List A) (y : B) (ys : List B) → any (λ x. any (f x) (y ∷ ys)) xs ≡ (any (λ x. f x y) xs || any (λ x. any (f x) ys) xs)
-  any-cons [] y ys = refl
-  any-cons (x ∷ xs) y ys = rw (any-cons xs y ys) (shuffle (f x y) (any (f x) ys) (any (λ x. f x y) xs) (any (λ x. any (f x) ys) xs))
-    where
-      shuffle : (a b c d : Bool) → (a || b || (c || d)) ≡ (a || c || (b || d))
-      shuffle true b c d = refl
-      shuffle false true true d = refl
-      shuffle false true false d = refl
-      shuffle false false c d = refl
-
-  pub any-swap : (xs : List A) (ys : List B) → any (λ x. any (f x) ys) xs ≡ any (λ y. any (λ x. f x y) xs) ys
-  any-swap xs [] = any-none xs
-  any-swap xs (y ∷ ys) = any-cons xs y ys ∙ ap (λ (b : Bool). any (λ x. f x y) xs || b) (any-swap xs ys)
 
 -- ---- the hashes of a slot, one after another
 module _ (s : Bytes) where

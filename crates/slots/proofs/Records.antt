@@ -54,7 +54,7 @@ module _ (h : Bytes) (u : List Slot) where
   at-stands i p e = rw e at answer-means
 
 -- ---- on a table's bytes: the record found is that of slot i
--- what stands in a slot of that place
+-- what stands in a slot of that place; no answer has the place empty
 abbrev pub entryOf : Place → Bytes → Entry
 entryOf Empty s = reserved (word 29 s)
 entryOf Reserved s = reserved (word 29 s)

@@ -78,7 +78,7 @@ module _ (s : Bytes) (len-s : length s ≡ 4288) where
       let e : 191 - (31 + 20 * hashes) ≡ 160 - 20 * hashes = omega arith in
       let g : gap ≡ allZero (part (31 + 20 * hashCountOf s) (160 - 20 * hashCountOf s) s) = rw (e, e-hashes) at e-gap in
       let r : rest ≡ allZero (drop (192 + word 29 s) s) = rw e-len at (e-rest ∙ zero-tail (192 + len)) in
-      rw (e-spare, g, r, e-len, few', short', and-true, and-true)
+      rw (e-spare, g, r, e-len, few', short') (simp and-true)
 
   -- the tests of a reserved slot
   pub reserved-parts : (hashes : ℕ) (taken key payload : Bool) → placeOf s ≡ 1 → hashes ≡ hashCountOf s → taken ≡ wellTaken s

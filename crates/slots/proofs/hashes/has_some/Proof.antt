@@ -9,8 +9,9 @@ use lib.ListN.{take, drop}
 use borrow.Author.Needs.{needs}
 use Rattle.profile.specs.Bytes.{Bytes, same, any}
 use Rattle.profile.specs.Table.{rightOf}
+use Rattle.octets.proofs.Comparing.{any-swap}
 use Rattle.slots.proofs.Turns.{any-pass, any-stop}
-use Rattle.slots.proofs.Querying.{any-swap, hashes-step, hashes-end}
+use Rattle.slots.proofs.Querying.{hashes-step, hashes-end}
 use Rattle.slots.proofs.hashes.has_some.Statement.{statement}
 use Rattle.slots.proofs.hashes.has_some.Tie as tie
 
