@@ -42,6 +42,11 @@ empty-image =
 blank-room : HasRoom hashSize mostHashes blank
 blank-room = record { key-16 = length-zeros 16; counts = blank-count; hashed = record { each = tt; few = omega arith }; short = omega arith }
 
+-- the places of a record with a right: enabled, disabled
+data HasRight : ℕ → Type 0 where
+  at-2 : HasRight 2
+  at-3 : HasRight 3
+
 module _ (s : Bytes) (bytes : Bytes256 s) where
   is-empty : Placed 0 s → s ≡ image 0 (zeros 10) blank 0
   unfolding unpack
@@ -51,63 +56,70 @@ module _ (s : Bytes) (bytes : Bytes256 s) where
   unfolding pack unpack
   is-reserved w = sym (pack-unpack s (w .long) bytes (w .well)) ∙ rw (w .place-is)
 
-  -- an enabled slot, and a disabled one
   abbrev imaged : ℕ → Bytes
   imaged p = image p (part 1 10 s) (rightOf s) (length (rightOf s .payload))
 
-  is-enabled : Placed 2 s → s ≡ imaged 2
+  is-right : {p : ℕ} → HasRight p → Placed p s → s ≡ imaged p
   unfolding pack unpack
-  is-enabled w = sym (pack-unpack s (w .long) bytes (w .well)) ∙ rw (w .place-is)
+  is-right at-2 w = sym (pack-unpack s (w .long) bytes (w .well)) ∙ rw (w .place-is)
+  is-right at-3 w = sym (pack-unpack s (w .long) bytes (w .well)) ∙ rw (w .place-is)
 
-  is-disabled : Placed 3 s → s ≡ imaged 3
-  unfolding pack unpack
-  is-disabled w = sym (pack-unpack s (w .long) bytes (w .well)) ∙ rw (w .place-is)
+  right-room : {p : ℕ} → HasRight p → Placed p s → HasRoom hashSize mostHashes (rightOf s)
+  unfolding unpack
+  right-room at-2 w = (rw (w .place-is) at (slot-fits s (w .long) (w .well))) .1 .room
+  right-room at-3 w = (rw (w .place-is) at (slot-fits s (w .long) (w .well))) .1 .room
 
   handle-10 : length s ≡ 4288 → length (part 1 10 s) ≡ 10
   handle-10 e = length-part 1 10 s (omega arith)
 
-  room-enabled : Placed 2 s → HasRoom hashSize mostHashes (rightOf s)
-  unfolding unpack
-  room-enabled w = (rw (w .place-is) at (slot-fits s (w .long) (w .well))) .1 .room
+  -- a right goes to another place
+  moved : {p : ℕ} (q : ℕ) → HasRight p → Placed p s → overAt 0 ((64 * q + byte 0 s % 64) ∷ []) s ≡ imaged q
+  moved {p} q at w =
+      ap (λ (d : Bytes). overAt 0 ((64 * q + byte 0 d % 64) ∷ []) d) (is-right at w)
+      ∙ place-over p (part 1 10 s) (rightOf s) (length (rightOf s .payload)) (handle-10 (w .long)) (right-room at w) q
 
-  room-disabled : Placed 3 s → HasRoom hashSize mostHashes (rightOf s)
-  unfolding unpack
-  room-disabled w = (rw (w .place-is) at (slot-fits s (w .long) (w .well))) .1 .room
-
--- ---- the changes
+-- ---- the changes, as they are written one after another
 module _ (s : Bytes) (bytes : Bytes256 s) where
-  -- a setup: place, handle and length
-  pub reserves : (h : Bytes) (n : ℕ) → length h ≡ 10 → Placed 0 s → overAt 29 (word-bytes n) (overAt 1 h (overAt 0 (64 ∷ []) s)) ≡ pack (taken h (reserved n))
+  -- a setup: place and handle, then the length
+  pub reserves : (s₁ s₂ h : Bytes) (n : ℕ) → length h ≡ 10 → Placed 0 s
+      → s₁ ≡ overAt 1 h (overAt 0 (64 ∷ []) s)
+      → s₂ ≡ overAt 29 (word-bytes n) s₁
+      → s₂ ≡ pack (taken h (reserved n))
   unfolding pack image
-  reserves h n e w =
-      ap (λ (d : Bytes). overAt 29 (word-bytes n) (overAt 1 h (overAt 0 (64 ∷ []) d))) (is-empty s bytes w)
-      ∙ ap (λ (d : Bytes). overAt 29 (word-bytes n) (overAt 1 h d)) (place-over 0 (zeros 10) blank 0 (length-zeros 10) blank-room 1)
-      ∙ ap (λ (d : Bytes). overAt 29 (word-bytes n) d) (handle-over 1 (zeros 10) blank 0 (length-zeros 10) blank-room h e)
-      ∙ length-over 1 h blank 0 e blank-room n
+  reserves s₁ s₂ h n e w e₁ e₂ = e₂ ∙ ap (overAt 29 (word-bytes n)) (e₁ ∙ labelled) ∙ length-over 1 h blank 0 e blank-room n
+    where
+      labelled : overAt 1 h (overAt 0 (64 ∷ []) s) ≡ image 1 h blank 0
+      labelled =
+          ap (λ (d : Bytes). overAt 1 h (overAt 0 (64 ∷ []) d)) (is-empty s bytes w)
+          ∙ ap (overAt 1 h) (place-over 0 (zeros 10) blank 0 (length-zeros 10) blank-room 1)
+          ∙ handle-over 1 (zeros 10) blank 0 (length-zeros 10) blank-room h e
 
   -- a right where a setup was
-  pub installs : (h : Bytes) (r : Right) → length h ≡ 10 → HasRoom hashSize mostHashes r → Placed 1 s → written 2 h r (length (r .payload)) s ≡ pack (taken h (enabled r))
+  installs : (h : Bytes) (r : Right) → length h ≡ 10 → HasRoom hashSize mostHashes r → Placed 1 s → written 2 h r (length (r .payload)) s ≡ pack (taken h (enabled r))
   unfolding pack
   installs h r e f w =
       ap (written 2 h r (length (r .payload))) (is-reserved s bytes w)
       ∙ stored 1 2 (part 1 10 s) h r (word 29 s) (length (r .payload)) (handle-10 s bytes (w .long)) e f
 
-  -- another handle, and disabled
-  pub lends : (k : Bytes) → length k ≡ 10 → Placed 2 s → overAt 1 k (overAt 0 ((64 * 3 + byte 0 s % 64) ∷ []) s) ≡ pack (taken k (disabled (rightOf s)))
+  -- disabled, and another handle
+  pub lends : (s₁ s₂ k : Bytes) → length k ≡ 10 → Placed 2 s
+      → s₁ ≡ overAt 0 ((64 * 3 + byte 0 s % 64) ∷ []) s
+      → s₂ ≡ overAt 1 k s₁
+      → s₂ ≡ pack (taken k (disabled (rightOf s)))
   unfolding pack
-  lends k e w =
-      ap (λ (d : Bytes). overAt 1 k (overAt 0 ((64 * 3 + byte 0 d % 64) ∷ []) d)) (is-enabled s bytes w)
-      ∙ ap (overAt 1 k) (place-over 2 (part 1 10 s) (rightOf s) (length (rightOf s .payload)) (handle-10 s bytes (w .long)) (room-enabled s bytes w) 3)
-      ∙ handle-over 3 (part 1 10 s) (rightOf s) (length (rightOf s .payload)) (handle-10 s bytes (w .long)) (room-enabled s bytes w) k e
+  lends s₁ s₂ k e w e₁ e₂ =
+      e₂ ∙ ap (overAt 1 k) (e₁ ∙ moved s bytes 3 at-2 w)
+      ∙ handle-over 3 (part 1 10 s) (rightOf s) (length (rightOf s .payload)) (handle-10 s bytes (w .long)) (right-room s bytes at-2 w) k e
 
-  -- enabled, with another count
-  pub enables : (c : Count) → Placed 3 s
-      → overAt 27 (word-bytes c) (overAt 0 ((64 * 2 + byte 0 s % 64) ∷ []) s) ≡ pack (taken (part 1 10 s) (enabled (recount c (rightOf s))))
+  -- enabled, and another count
+  pub enables : (s₁ s₂ : Bytes) (c : Count) → Placed 3 s
+      → s₁ ≡ overAt 0 ((64 * 2 + byte 0 s % 64) ∷ []) s
+      → s₂ ≡ overAt 27 (word-bytes c) s₁
+      → s₂ ≡ pack (taken (part 1 10 s) (enabled (recount c (rightOf s))))
   unfolding pack
-  enables c w =
-      ap (λ (d : Bytes). overAt 27 (word-bytes c) (overAt 0 ((64 * 2 + byte 0 d % 64) ∷ []) d)) (is-disabled s bytes w)
-      ∙ ap (overAt 27 (word-bytes c)) (place-over 3 (part 1 10 s) (rightOf s) (length (rightOf s .payload)) (handle-10 s bytes (w .long)) (room-disabled s bytes w) 2)
-      ∙ count-over 2 (part 1 10 s) (rightOf s) (length (rightOf s .payload)) (handle-10 s bytes (w .long)) (room-disabled s bytes w) c
+  enables s₁ s₂ c w e₁ e₂ =
+      e₂ ∙ ap (overAt 27 (word-bytes c)) (e₁ ∙ moved s bytes 2 at-3 w)
+      ∙ count-over 2 (part 1 10 s) (rightOf s) (length (rightOf s .payload)) (handle-10 s bytes (w .long)) (right-room s bytes at-3 w) c
 
 -- ---- the right of a request
 module _ (key : Bytes) (count : Count) (n m : ℕ) (f : Bytes) (at : ℕ) (k-16 : length key ≡ 16) (n-8 : n ≤ 8) (m-4096 : m ≤ 4096) (fits : at + 20 * n + m ≤ length f) where

@@ -11,8 +11,8 @@ ghost use Rattle.changes.specs.Change.{slotAt, Has, rightFrom};
 // "A slot has 4,288 bytes".
 const SLOT: usize = 4288;
 
-pub mod fields; // fields.rt: a slot's fields written where they stand
-pub mod slot; // slot.rt: a slot's bytes changed from one record's to another's
+mod fields; // fields.rt: a slot's fields written where they stand
+mod slot; // slot.rt: a slot's bytes changed from one record's to another's
 
 // Kinds 6 and 7: "All bytes of the slot become 0."
 pub fn clear_slot(t: &mut [u8], i: usize)

@@ -1,8 +1,5 @@
 -- `changes::slot::enable` meets its contract: place and count are written. Assumes nothing.
 use denote.Ref.{now}
-use mathlib.Core.Path.{ap, _∙_}
-use Rattle.profile.specs.Bytes.{word-bytes}
-use Rattle.octets.specs.Over.{overAt}
 use Rattle.changes.proofs.SlotBytes.{below-256, enables}
 use borrow.Author.Needs.{needs}
 use Rattle.changes.proofs.slot.enable.Statement.{statement}
@@ -21,9 +18,10 @@ returns : tie.Need-returns
 returns c =
     let known = c .before .before .before .before .before .before .before .before in
     let start = known .before in
-    c .before .before .put-word .ensures
-    ∙ ap (overAt 27 (word-bytes (start .args .count))) (c .before .before .before .before .before .before .put-place .ensures)
-    ∙ enables (now (start .args .s)) (below-256 (now (start .args .s)) (known .slice-known .given)) (start .args .count) (start .pre)
+    let s = now (start .args .s) in
+    let place = c .before .before .before .before .before .before .put-place in
+    let count = c .before .before .put-word in
+    enables s (below-256 s (known .slice-known .given)) (place .last .0) (count .last .0) (start .args .count) (start .pre) (place .ensures) (count .ensures)
 
 pub enable-spec : {M : Type 1} → statement M
 enable-spec = tie.close (tie.spec put-place-requires put-word-requires same-length returns)

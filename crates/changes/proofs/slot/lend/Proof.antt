@@ -1,7 +1,5 @@
 -- `changes::slot::lend` meets its contract: place and handle are written. Assumes nothing.
 use denote.Ref.{now}
-use mathlib.Core.Path.{ap, _∙_}
-use Rattle.octets.specs.Over.{overAt}
 use Rattle.changes.proofs.SlotBytes.{below-256, lends}
 use borrow.Author.Needs.{needs}
 use Rattle.changes.proofs.slot.lend.Statement.{statement}
@@ -23,10 +21,10 @@ returns : tie.Need-returns
 returns c =
     let known = c .before .before .before .before .before .before .before .before .before in
     let start = known .before in
-    let k = start .args .t2 in
-    c .before .before .put-bytes .ensures
-    ∙ ap (overAt 1 k) (c .before .before .before .before .before .before .before .put-place .ensures)
-    ∙ lends (now (start .args .s)) (below-256 (now (start .args .s)) (known .slice-known .given)) k (search needs) (start .pre)
+    let s = now (start .args .s) in
+    let place = c .before .before .before .before .before .before .before .put-place in
+    let handle = c .before .before .put-bytes in
+    lends s (below-256 s (known .slice-known .given)) (place .last .0) (handle .last .0) (start .args .t2) (search needs) (start .pre) (place .ensures) (handle .ensures)
 
 pub lend-spec : {M : Type 1} → statement M
 lend-spec =
