@@ -1,11 +1,11 @@
 -- A reply frame, written part by part at the start of a buffer; and each frame as the reply of an answer. Assumes nothing.
-use mathlib.Core.Path.{_≡_, refl, sym, ap, ap₂, _∙_}
+use mathlib.Core.Path.{_≡_, refl, sym, ap, _∙_}
 use mathlib.Core.List.{List, [], _∷_, _++_, append-assoc}
 use Prim.Native.Nat.{ℕ, _+_, _*_, _≤_}
 use native.Mathlib.Omega.{arith}
 use lib.ListN.{length, drop, length-append}
-use Rattle.profile.specs.Bytes.{Bytes, part, word, word-bytes, over, joined, pieces}
-use Rattle.profile.specs.Slot.{Count, Right, Slot}
+use Rattle.profile.specs.Bytes.{Bytes, part, word, word-bytes, over}
+use Rattle.profile.specs.Slot.{Slot}
 use Rattle.profile.specs.Table.{hashCountOf, countBytes, rightOf}
 use Rattle.profile.specs.Frame.{Refusal, code, frame}
 use Rattle.profile.specs.Agent.{Given, theRight, theKey, deny, done, writeGiven, replyFrame}
@@ -90,10 +90,10 @@ module _ (s d : Bytes) (len-s : length s ≡ 4288) where
           (parts-written 3 0 size (23 + 20 * hashCountOf s) (k ++ m ++ hs) p d (omega arith) (omega arith) (omega arith) ∙ ap (λ (b : Bytes). over (frame 3 0 b) d) right-is)
 
       -- the same, step by step
-      pub right-steps : (n c l : ℕ) (f d₁ d₂ d₃ d₄ d₅ : Bytes) → n ≡ hashCountOf s → c ≡ word 27 s → l ≡ word 29 s → f ≡ countBytes c ++ ((16 * n) ∷ [])
+      pub right-steps : {n c l : ℕ} {f d₁ d₂ d₃ d₄ d₅ : Bytes} → n ≡ hashCountOf s → c ≡ word 27 s → l ≡ word 29 s → f ≡ countBytes c ++ ((16 * n) ∷ [])
           → d₁ ≡ overAt 0 (headOf 3 0 (19 + 20 * n + l)) d → d₂ ≡ overAt 4 (part 11 16 s) d₁ → d₃ ≡ overAt 20 f d₂ → d₄ ≡ overAt 23 (part 31 (20 * n) s) d₃ → d₅ ≡ overAt (23 + 20 * n) (part 192 l s) d₄
           → 4279 ≤ length d → d₅ ≡ over (frame 3 0 (writeGiven (theRight (rightOf s)))) d
-      right-steps n c l f d₁ d₂ d₃ d₄ d₅ en ec el ef e₁ e₂ e₃ e₄ e₅ h = rw (e₅, e₄, e₃, e₂, e₁, ef, en, ec, el) (right-written h)
+      right-steps en ec el ef e₁ e₂ e₃ e₄ e₅ h = rw (e₅, e₄, e₃, e₂, e₁, ef, en, ec, el) (right-written h)
 
 -- ---- as replies
 pub deny-frame : (kind : ℕ) (r : Refusal) → replyFrame kind (deny r) ≡ frame kind (code r) []

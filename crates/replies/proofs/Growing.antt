@@ -1,5 +1,5 @@
 -- A list of handles that grows in a buffer, and the head that closes it. Assumes nothing.
-use mathlib.Core.Path.{_≡_, refl, sym, ap, ap₂, _∙_}
+use mathlib.Core.Path.{_≡_, refl, ap, _∙_}
 use mathlib.Core.List.{List, [], _∷_, _++_, append-assoc, append-nil}
 use mathlib.Core.Bool.{Bool}
 use Prim.Native.Nat.{ℕ, suc, _+_, _*_, _≤_}
@@ -8,7 +8,8 @@ use lib.ListN.{length, take, drop, length-append, take-append-drop}
 use lib.Seq.{drop-at, length-take-le}
 use Rattle.profile.specs.Bytes.{Bytes, if_then_else_, over, joined, Each}
 use Rattle.profile.specs.Frame.{frame}
-use Rattle.profile.specs.Agent.{handles, writeGiven}
+use Rattle.profile.specs.Slot.{Slot}
+use Rattle.profile.specs.Agent.{handles, done, replyFrame}
 use Rattle.profile.proofs.Strings.{length-each}
 use Rattle.octets.specs.Over.{overAt}
 use Rattle.octets.proofs.Overlays.{over-start, over-length, over-more}
@@ -36,9 +37,12 @@ module _ (hs : List Bytes) (n : ℕ) (b : Bytes) (each : Each 10 hs) (count : le
   unfolding holding
   hold-length = let s = size in over-length (joined hs) b 5 (omega arith)
 
-  pub hold-more : (h : Bytes) → length h ≡ 10 → 15 + 10 * n ≤ length b → overAt (5 + 10 * n) h (holding hs b) ≡ holding (hs ++ (h ∷ [])) b
+  -- after `put_handle`
+  pub hold-more : {d d' : Bytes} (h : Bytes) → length h ≡ 10 → 15 + 10 * n ≤ length b → d ≡ holding hs b → d' ≡ overAt (5 + 10 * n) h d → d' ≡ holding (hs ++ (h ∷ [])) b
   unfolding holding
-  hold-more h e f = let s = size in over-more (joined hs) h b 5 (5 + 10 * n) (omega arith) (omega arith) ∙ rw (joined-snoc hs h)
+  hold-more h e f p q =
+      let s = size in
+      q ∙ rw p (over-more (joined hs) h b 5 (5 + 10 * n) (omega arith) (omega arith) ∙ rw (joined-snoc hs h))
 
 -- ---- the head
 -- bytes written in front of bytes: one writing of both
@@ -48,17 +52,19 @@ over-front xs ys d n e h =
     let t : Bytes = drop (n + length ys) d in
     rw (e, append-assoc (take n d) ys t, drop-at (take n d) (ys ++ t) n (length-take-le n d h), length-append xs ys, append-assoc xs ys (drop (length xs + length ys) d), e)
 
-pub list-closed : (hs : List Bytes) (n : ℕ) (b : Bytes) → Each 10 hs → length hs ≡ n → 5 + 10 * n ≤ length b → (more : Bool)
-    → over (listStart n more) (holding hs b) ≡ over (frame 8 0 (writeGiven (handles more hs))) b
-unfolding holding listStart frame
-list-closed hs n b each count fits more =
-    over-front (listStart n more) (joined hs) b 5 refl (omega arith)
+-- after `close_list`, whatever the slots are
+pub list-closed : (hs : List Bytes) (n : ℕ) (b : Bytes) → Each 10 hs → length hs ≡ n → 5 + 10 * n ≤ length b → {d d' : Bytes} (more : Bool) (t : List Slot)
+    → d ≡ holding hs b → d' ≡ over (listStart n more) d → d' ≡ over (replyFrame 8 (done (handles more hs) t)) b
+unfolding holding listStart frame replyFrame
+list-closed hs n b each count fits more t p q =
+    q
+    ∙ rw p (over-front (listStart n more) (joined hs) b 5 refl (omega arith))
     ∙ ap (λ (m : ℕ). over (headOf 8 0 m ++ ((if more then 128 else 0) ∷ joined hs)) b) says
   where
     says : 1 + 10 * n ≡ suc (length (joined hs))
     says = omega (arith, size hs n b each count fits)
 
--- it is written in two parts
+-- the head of a list is written in two parts
 pub start-written : (n : ℕ) (more : Bool) (d : Bytes) → 5 ≤ length d → overAt 4 ((if more then 128 else 0) ∷ []) (overAt 0 (headOf 8 0 (1 + 10 * n)) d) ≡ over (listStart n more) d
 unfolding listStart
 start-written n more d h = over-more (headOf 8 0 (1 + 10 * n)) ((if more then 128 else 0) ∷ []) d 0 4 refl h ∙ over-start (headOf 8 0 (1 + 10 * n) ++ ((if more then 128 else 0) ∷ [])) d

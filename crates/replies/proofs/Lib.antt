@@ -1,2 +1,9 @@
+-- the writer
 pub mod Frames
 pub mod Growing
+pub mod WellSlots
+-- the reader
+pub mod Shapes
+pub mod Tellings
+pub mod Meanings
+pub mod ReadBack

@@ -19,6 +19,14 @@ fn put_head(reply: &mut [u8], kind: u8, status: u8, n: u16)
     octets::put::put_bytes(reply, 0, &head);
 }
 
+// A body's key, as kinds 3 and 4 have it first.
+fn put_key(reply: &mut [u8], slot: &[u8])
+    requires { ⌜ (20 ≤ length (now reply)) × (27 ≤ length (now slot)) ⌝ }
+    ensures { λ _. ⌜ now (reply .exit) ≡ overAt 4 (part 11 16 (now (slot .entry))) (now (reply .entry)) ⌝ }
+{
+    octets::put::put_part(reply, 4, slot, 11, 16);
+}
+
 // "Every status but 0 has an empty body", and so have the successes of kinds 1, 2 and 5 to 7.
 pub fn reply_status(reply: &mut [u8], kind: u8, status: u8)
     requires { ⌜ (kind < 32) × (4 ≤ length (now reply)) ⌝ }
@@ -33,7 +41,7 @@ pub fn reply_key(reply: &mut [u8], slot: &[u8])
     ensures { λ _. ⌜ now (reply .exit) ≡ over (frame 4 0 (writeGiven (theKey (rightOf (now (slot .entry)) .key)))) (now (reply .entry)) ⌝ }
 {
     put_head(reply, 4, 0, 16);
-    octets::put::put_part(reply, 4, slot, 11, 16);
+    put_key(reply, slot);
 }
 
 // Kind 9 at success: count and payload, from the record's slot.
@@ -69,7 +77,7 @@ pub fn reply_right(reply: &mut [u8], slot: &[u8])
     let length = octets::words::word_at(slot, 29);
     let size = 20 * (hashes as u16);
     put_head(reply, 3, 0, 19 + size + length);
-    octets::put::put_part(reply, 4, slot, 11, 16);
+    put_key(reply, slot);
     let head = right_head(count, hashes);
     octets::put::put_bytes(reply, 20, &head);
     let n = size as usize;

@@ -8,8 +8,8 @@ use Rattle.replies.proofs.writer.reply_key.Tie as tie
 put-head-requires : tie.Need-put-head-requires
 put-head-requires c κs = search needs
 
-put-part-requires : tie.Need-put-part-requires
-put-part-requires c κs = search needs
+put-key-requires : tie.Need-put-key-requires
+put-key-requires c κs = search needs
 
 same-length : tie.Need-same-length
 same-length c = search needs
@@ -21,4 +21,4 @@ returns c =
     cc (key-written (now (a .slot)) (now (a .reply)) (start .pre .1) (start .pre .0))
 
 pub reply-key-spec : {M : Type 1} → statement M
-reply-key-spec = tie.close (tie.spec put-head-requires put-part-requires same-length returns)
+reply-key-spec = tie.close (tie.spec put-head-requires put-key-requires same-length returns)

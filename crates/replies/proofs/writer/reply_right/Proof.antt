@@ -32,8 +32,8 @@ add-put-head-2 c = search needs
 put-head-requires : tie.Need-put-head-requires
 put-head-requires c κs = search needs
 
-put-part-requires : tie.Need-put-part-requires
-put-part-requires c κs = search needs
+put-key-requires : tie.Need-put-key-requires
+put-key-requires c κs = search needs
 
 right-head-requires : tie.Need-right-head-requires
 right-head-requires c κs = search needs
@@ -47,8 +47,8 @@ put-bytes-requires c κs = search needs
 cast-n : tie.Need-cast-n
 cast-n c = search needs
 
-put-part-requires-2 : tie.Need-put-part-requires-2
-put-part-requires-2 c κs = search needs
+put-part-requires : tie.Need-put-part-requires
+put-part-requires c κs = search needs
 
 add-put-part : tie.Need-add-put-part
 add-put-part c = search needs
@@ -56,8 +56,8 @@ add-put-part c = search needs
 cast-put-part : tie.Need-cast-put-part
 cast-put-part c = search needs
 
-put-part-requires-3 : tie.Need-put-part-requires-3
-put-part-requires-3 c κs = search needs
+put-part-requires-2 : tie.Need-put-part-requires-2
+put-part-requires-2 c κs = search needs
 
 same-length : tie.Need-same-length
 same-length c = search needs
@@ -76,10 +76,8 @@ returns c =
     let start = many .before .before .before .before in
     let a = start .args in
     right-steps (now (a .slot)) (now (a .reply)) (start .pre .1) (start .pre .3) (start .pre .2)
-    (many .slot-hashes .result) (counted .word-at .result) (long .word-at2 .result) (made .right-head .result)
-    (headed .put-head .last .0) (keyed .put-part .last .0) (fronted .put-bytes .last .0) (hashed .put-part2 .last .0) (last .put-part3 .last .0)
     (many .slot-hashes .ensures) (counted .word-at .ensures) (long .word-at2 .ensures) (made .right-head .ensures)
-    (headed .put-head .ensures) (keyed .put-part .ensures) (fronted .put-bytes .ensures) (hashed .put-part2 .ensures) (last .put-part3 .ensures) (start .pre .0)
+    (headed .put-head .ensures) (keyed .put-key .ensures) (fronted .put-bytes .ensures) (hashed .put-part .ensures) (last .put-part2 .ensures) (start .pre .0)
 
 pub reply-right-spec : {M : Type 1} → statement M
 reply-right-spec =
@@ -94,14 +92,14 @@ reply-right-spec =
     add-put-head
     add-put-head-2
     put-head-requires
-    put-part-requires
+    put-key-requires
     right-head-requires
     slice-aggregate-put-bytes
     put-bytes-requires
     cast-n
-    put-part-requires-2
+    put-part-requires
     add-put-part
     cast-put-part
-    put-part-requires-3
+    put-part-requires-2
     same-length
     returns)

@@ -1,0 +1,21 @@
+-- `replies::reader::info_in` meets its contract. Assumes nothing.
+use Rattle.replies.specs.Told.{infoIn}
+use borrow.Author.Needs.{needs}
+use Rattle.replies.proofs.reader.info_in.Statement.{statement}
+use Rattle.replies.proofs.reader.info_in.Tie as tie
+
+word-at-requires : tie.Need-word-at-requires
+word-at-requires c κs = search needs
+
+sub-t4 : tie.Need-sub-t4
+sub-t4 c = search needs
+
+without-key-requires : tie.Need-without-key-requires
+without-key-requires c κs = search needs
+
+returns : tie.Need-returns
+unfolding infoIn
+returns c = cc
+
+pub info-in-spec : {M : Type 1} → statement M
+info-in-spec = tie.close (tie.spec word-at-requires sub-t4 without-key-requires returns)

@@ -1,0 +1,15 @@
+-- `replies::reader::key_in` meets its contract. Assumes nothing.
+use Rattle.replies.specs.Told.{keyIn}
+use borrow.Author.Needs.{needs}
+use Rattle.replies.proofs.reader.key_in.Statement.{statement}
+use Rattle.replies.proofs.reader.key_in.Tie as tie
+
+key-at-requires : tie.Need-key-at-requires
+key-at-requires c κs = search needs
+
+returns : tie.Need-returns
+unfolding keyIn
+returns c = cc
+
+pub key-in-spec : {M : Type 1} → statement M
+key-in-spec = tie.close (tie.spec key-at-requires returns)

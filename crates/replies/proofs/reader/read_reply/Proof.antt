@@ -1,0 +1,15 @@
+-- `replies::reader::read_reply` meets its contract: what is told means what document 01 says. Assumes nothing.
+use denote.Ref.{now}
+use Rattle.replies.proofs.Meanings.{reads}
+use borrow.Author.Needs.{needs}
+use Rattle.replies.proofs.reader.read_reply.Statement.{statement}
+use Rattle.replies.proofs.reader.read_reply.Tie as tie
+
+tell-requires : tie.Need-tell-requires
+tell-requires c κs = search needs
+
+returns : tie.Need-returns
+returns c = reads (now (c .before .before .args .f)) (c .tell .result) (c .tell .ensures)
+
+pub read-reply-spec : {M : Type 1} → statement M
+read-reply-spec = tie.close (tie.spec tell-requires returns)

@@ -1,0 +1,47 @@
+-- `replies::reader::right_in` meets its contract. Assumes nothing.
+use Rattle.replies.specs.Told.{rightIn}
+use borrow.Author.Needs.{needs}
+use Rattle.replies.proofs.reader.right_in.Statement.{statement}
+use Rattle.replies.proofs.reader.right_in.Tie as tie
+
+key-at-requires : tie.Need-key-at-requires
+key-at-requires c κs = search needs
+
+shared-slice-read-count-of : tie.Need-shared-slice-read-count-of
+shared-slice-read-count-of c = search needs
+
+count-of-requires : tie.Need-count-of-requires
+count-of-requires c κs = search needs
+
+wide8-requires : tie.Need-wide8-requires
+wide8-requires c κs = search needs
+
+mul-at : tie.Need-mul-at
+mul-at c = search needs
+
+add-at : tie.Need-add-at
+add-at c = search needs
+
+word-at-requires : tie.Need-word-at-requires
+word-at-requires c κs = search needs
+
+sub-t10 : tie.Need-sub-t10
+sub-t10 c = search needs
+
+returns : tie.Need-returns
+unfolding rightIn
+returns c = cc
+
+pub right-in-spec : {M : Type 1} → statement M
+right-in-spec =
+    tie.close
+    (tie.spec
+    key-at-requires
+    shared-slice-read-count-of
+    count-of-requires
+    wide8-requires
+    mul-at
+    add-at
+    word-at-requires
+    sub-t10
+    returns)

@@ -1,0 +1,55 @@
+-- `replies::shape::is_right` meets its contract. Assumes nothing.
+use mathlib.Core.Path.{_∙_}
+use denote.Ref.{now}
+use Rattle.replies.proofs.Shapes.{right-short, right-tests}
+use borrow.Author.Needs.{needs}
+use Rattle.replies.proofs.shape.is_right.Statement.{statement}
+use Rattle.replies.proofs.shape.is_right.Tie as tie
+
+returns : tie.Need-returns
+returns c = right-short (now (c .before .before .args .f)) (c .if1 .taken)
+
+shared-slice-read-count-of : tie.Need-shared-slice-read-count-of
+shared-slice-read-count-of c = search needs
+
+count-of-requires : tie.Need-count-of-requires
+count-of-requires c κs = search needs
+
+wide8-requires : tie.Need-wide8-requires
+wide8-requires c κs = search needs
+
+shared-slice-read-count-rest : tie.Need-shared-slice-read-count-rest
+shared-slice-read-count-rest c = search needs
+
+count-rest-requires : tie.Need-count-rest-requires
+count-rest-requires c κs = search needs
+
+mul-at : tie.Need-mul-at
+mul-at c = search needs
+
+add-at : tie.Need-add-at
+add-at c = search needs
+
+add-result : tie.Need-add-result
+add-result c = search needs
+
+returns-2 : tie.Need-returns-2
+returns-2 c =
+    let counted = c .before .before in
+    let long = counted .before .before .before in
+    right-tests (now (long .before .before .args .f)) (long .if1 .left) (counted .wide8 .ensures ∙ counted .before .count-of .ensures) (c .count-rest .ensures)
+
+pub is-right-spec : {M : Type 1} → statement M
+is-right-spec =
+    tie.close
+    (tie.spec
+    returns
+    shared-slice-read-count-of
+    count-of-requires
+    wide8-requires
+    shared-slice-read-count-rest
+    count-rest-requires
+    mul-at
+    add-at
+    add-result
+    returns-2)

@@ -1,0 +1,19 @@
+-- `replies::writer::right_head` meets its contract. Assumes nothing.
+use borrow.Author.Needs.{needs}
+use Rattle.replies.proofs.writer.right_head.Statement.{statement}
+use Rattle.replies.proofs.writer.right_head.Tie as tie
+
+high-of-requires : tie.Need-high-of-requires
+high-of-requires c κs = search needs
+
+low-of-requires : tie.Need-low-of-requires
+low-of-requires c κs = search needs
+
+count-byte-requires : tie.Need-count-byte-requires
+count-byte-requires c κs = search needs
+
+returns : tie.Need-returns
+returns c = cc
+
+pub right-head-spec : {M : Type 1} → statement M
+right-head-spec = tie.close (tie.spec high-of-requires low-of-requires count-byte-requires returns)
