@@ -130,6 +130,11 @@ module _ (T B h : Bytes) (bytes : Bytes256 T) (r : Ready T B) (i : ℕ) where
       number Enabled l = taken-place s s-bytes h (entryOf Enabled s) (record-at T h i Enabled l .unpacked)
       number Disabled l = taken-place s s-bytes h (entryOf Disabled s) (record-at T h i Disabled l .unpacked)
 
+-- whatever places the request takes, the slot to change is one of the table's
+pub has-slot : (T B h : Bytes) (r : Ready T B) (w : Takes) (d : Decision) → d ≡ decided w (lookUp h (slotsOf T)) → (i : ℕ) (o : Place) → d ≡ Change i o → Has T i
+has-slot T B h r w d e i o q =
+    record { whole = r .whole; well = r .well; inside = record-at T h i o (stands h (slotsOf T) w i o (sym e ∙ q) .0) .below }
+
 -- what is known of a slot's bytes is known of those lent
 pub fits-lent : (x s : Bytes) → x ≡ s → RecordFits s → RecordFits x
 fits-lent x s e f = rw e f

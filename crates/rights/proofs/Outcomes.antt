@@ -131,9 +131,6 @@ module _ (T B h : Bytes) (bytes : Bytes256 T) (r : Ready T B) (d : Decision) whe
           go Enabled p t l = f p (held T B h bytes r i Enabled l)
           go Disabled p t l = g p (held T B h bytes r i Disabled l)
 
-      pub has-slot : Has T i
-      has-slot = held-installed (λ _ w. w .has) (λ _ w. w .has)
-
       -- "An enabled one stays as it is"
       pub stays : (c : Count) → (o ≡ Disabled → ⊥) → answerTo T (enable h c) ≡ done nothing u
       unfolding act
