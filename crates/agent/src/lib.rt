@@ -38,7 +38,7 @@ fn refuse_with(frame: &[u8], reply: &mut [u8], status: u8) -> u16
     requires { ⌜ (4 ≤ length (now frame)) × (4279 ≤ length (now reply)) ⌝ }
     ensures { λ r. ⌜ (r ≡ 0) × (now (reply .exit) ≡ over (frameOf (kindNumber (now (frame .entry))) status []) (now (reply .entry))) ⌝ }
 {
-    replies::writer::reply_status(reply, octets::bits::frame_kind(frame[0]), status);
+    replies::writer::reply_status(reply, bits::fields::frame_kind(frame[0]), status);
     0
 }
 

@@ -28,7 +28,7 @@ pub fn put_label(s: &mut [u8], place: u8, hashes: u8, h: [u8; 10])
     requires { ⌜ (place < 4) × (hashes < 16) × (11 ≤ length (now s)) ⌝ }
     ensures { λ _. ⌜ now (s .exit) ≡ overAt 1 h (overAt 0 ((64 * place + 4 * hashes) ∷ []) (now (s .entry))) ⌝ }
 {
-    s[0] = octets::bits::slot_head(place, hashes);
+    s[0] = bits::fields::slot_head(place, hashes);
     octets::put::put_bytes(s, 1, &h);
 }
 

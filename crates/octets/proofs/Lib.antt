@@ -1,5 +1,4 @@
 -- Laws that the functions' proofs cite, and those that callers may.
-pub mod Fields
 pub mod Parts
 pub mod Copying
 pub mod Comparing

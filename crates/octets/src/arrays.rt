@@ -5,7 +5,7 @@ ghost use lib.ListN.{length, take, drop};
 ghost use Rattle.profile.specs.Bytes.{part, pieces};
 
 // The one copying loop: arrays of every width, and parts of a buffer, are filled by it.
-pub fn copy_from(d: &mut [u8], s: &[u8], at: usize)
+pub(crate) fn copy_from(d: &mut [u8], s: &[u8], at: usize)
     requires { ⌜ at + length (now d) ≤ length (now s) ⌝ }
     ensures { λ _. ⌜ now (d .exit) ≡ part at (length (now (d .entry))) (now (s .entry)) ⌝ }
 {
@@ -37,7 +37,7 @@ pub fn key_at(s: &[u8], at: usize) -> [u8; 16]
 }
 
 // One asset hash of 20 bytes (SHA-1).
-pub fn hash_at(s: &[u8], at: usize) -> [u8; 20]
+fn hash_at(s: &[u8], at: usize) -> [u8; 20]
     requires { ⌜ at + 20 ≤ length (now s) ⌝ }
     ensures { λ r. ⌜ r ≡ part at 20 (now (s .entry)) ⌝ }
 {

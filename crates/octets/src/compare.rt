@@ -5,7 +5,7 @@ ghost use lib.ListN.{length, take};
 ghost use Rattle.profile.specs.Bytes.{part, same, any};
 
 // The one comparing loop, which stops at the first byte that differs: two slots' handles are told apart by it in place.
-pub fn same_parts(s: &[u8], a: usize, t: &[u8], b: usize, n: usize) -> bool
+fn same_parts(s: &[u8], a: usize, t: &[u8], b: usize, n: usize) -> bool
     requires { ⌜ (a + n ≤ length (now s)) × (b + n ≤ length (now t)) ⌝ }
     ensures { λ r. ⌜ r ≡ same (part a n (now (s .entry))) (part b n (now (t .entry))) ⌝ }
 {
@@ -27,27 +27,12 @@ pub fn same_from(a: &[u8], s: &[u8], at: usize) -> bool
     same_parts(a, 0, s, at, a.len())
 }
 
-// Whether a request's handle is the one that stands in a slot.
-pub fn same_handle_at(h: [u8; 10], s: &[u8], at: usize) -> bool
-    requires { ⌜ at + 10 ≤ length (now s) ⌝ }
-    ensures { λ r. ⌜ r ≡ same h (part at 10 (now (s .entry))) ⌝ }
-{
-    same_from(&h, s, at)
-}
-
 // Whether a query's hash is the one that stands in a slot.
-pub fn same_hash_at(h: [u8; 20], s: &[u8], at: usize) -> bool
+fn same_hash_at(h: [u8; 20], s: &[u8], at: usize) -> bool
     requires { ⌜ at + 20 ≤ length (now s) ⌝ }
     ensures { λ r. ⌜ r ≡ same h (part at 20 (now (s .entry))) ⌝ }
 {
     same_from(&h, s, at)
-}
-
-// Whether two handles are the same.
-pub fn same_handles(a: [u8; 10], b: [u8; 10]) -> bool
-    ensures { λ r. ⌜ r ≡ same a b ⌝ }
-{
-    same_from(&a, &b, 0)
 }
 
 // Kind 8, "that have some hash of the request": whether one of a query's n hashes is the one that stands in a slot.

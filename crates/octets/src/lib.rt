@@ -1,6 +1,4 @@
-// Bytes: fields of bits and words, arrays read by value, comparison, writing in place, zero bytes.
-pub mod bits; // bits.rt: bytes of packed bit fields
-pub mod words; // words.rt: numbers of 16 bits
+// Bytes: arrays read by value, comparison, writing in place, zero bytes.
 pub mod arrays; // arrays.rt: handles, keys and hashes as arrays by value
 pub mod compare; // compare.rt: bytes compared where they stand
 pub mod put; // put.rt: bytes written into a lent buffer

@@ -28,7 +28,7 @@ pub fn put_word(out: &mut [u8], at: usize, n: u16)
     requires { ⌜ at + 2 ≤ length (now out) ⌝ }
     ensures { λ _. ⌜ now (out .exit) ≡ overAt at (word-bytes n) (now (out .entry)) ⌝ }
 {
-    let w = crate::words::bytes_of(n);
+    let w = bits::words::bytes_of(n);
     put_bytes(out, at, &w);
 }
 
@@ -37,9 +37,9 @@ pub fn frame_start(kind: u8, second: u8, n: u16) -> [u8; 4]
     requires { ⌜ kind < 32 ⌝ }
     ensures { λ r. ⌜ r ≡ (32 + kind) ∷ second ∷ word-bytes n ⌝ }
 {
-    let first = crate::bits::frame_head(kind);
-    let high = crate::words::high_of(n);
-    let low = crate::words::low_of(n);
+    let first = bits::fields::frame_head(kind);
+    let high = bits::words::high_of(n);
+    let low = bits::words::low_of(n);
     [first, second, high, low]
 }
 

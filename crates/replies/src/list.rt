@@ -22,6 +22,6 @@ pub fn close_list(reply: &mut [u8], n: usize, more: bool)
     let size = (1 + 10 * n) as u16;
     let head = octets::put::frame_start(8, 0, size);
     octets::put::put_bytes(reply, 0, &head);
-    let flag = [octets::bits::flag_byte(more)];
+    let flag = [bits::fields::flag_byte(more)];
     octets::put::put_bytes(reply, 4, &flag);
 }

@@ -49,8 +49,8 @@ pub fn reply_info(reply: &mut [u8], slot: &[u8])
     requires { ⌜ (4102 ≤ length (now reply)) × (length (now slot) ≡ 4288) × (word 29 (now slot) ≤ 4096) ⌝ }
     ensures { λ _. ⌜ now (reply .exit) ≡ over (frame 9 0 (writeGiven (infoOf (rightOf (now (slot .entry)))))) (now (reply .entry)) ⌝ }
 {
-    let count = octets::words::word_at(slot, 27);
-    let length = octets::words::word_at(slot, 29);
+    let count = bits::words::word_at(slot, 27);
+    let length = bits::words::word_at(slot, 29);
     put_head(reply, 9, 0, 2 + length);
     octets::put::put_word(reply, 4, count);
     octets::put::put_part(reply, 6, slot, 192, length as usize);
@@ -61,9 +61,9 @@ fn right_head(count: u16, hashes: u8) -> [u8; 3]
     requires { ⌜ hashes < 16 ⌝ }
     ensures { λ r. ⌜ r ≡ countBytes count ++ ((16 * hashes) ∷ []) ⌝ }
 {
-    let high = octets::words::high_of(count);
-    let low = octets::words::low_of(count);
-    let shifted = octets::bits::count_byte(hashes);
+    let high = bits::words::high_of(count);
+    let low = bits::words::low_of(count);
+    let shifted = bits::fields::count_byte(hashes);
     [high, low, shifted]
 }
 
@@ -72,9 +72,9 @@ pub fn reply_right(reply: &mut [u8], slot: &[u8])
     requires { ⌜ (4279 ≤ length (now reply)) × (length (now slot) ≡ 4288) × (hashCountOf (now slot) ≤ 8) × (word 29 (now slot) ≤ 4096) ⌝ }
     ensures { λ _. ⌜ now (reply .exit) ≡ over (frame 3 0 (writeGiven (theRight (rightOf (now (slot .entry)))))) (now (reply .entry)) ⌝ }
 {
-    let hashes = octets::bits::slot_hashes(slot[0]);
-    let count = octets::words::word_at(slot, 27);
-    let length = octets::words::word_at(slot, 29);
+    let hashes = bits::fields::slot_hashes(slot[0]);
+    let count = bits::words::word_at(slot, 27);
+    let length = bits::words::word_at(slot, 29);
     let size = 20 * (hashes as u16);
     put_head(reply, 3, 0, 19 + size + length);
     put_key(reply, slot);

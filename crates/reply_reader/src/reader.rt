@@ -40,11 +40,11 @@ fn right_in(f: &[u8]) -> Told
     ensures { λ r. ⌜ r ≡ rightIn (now (f .entry)) ⌝ }
 {
     let key = octets::arrays::key_at(f, 4);
-    let hashes = crate::shape::wide8(octets::bits::count_of(f[22]));
+    let hashes = crate::shape::wide8(bits::fields::count_of(f[22]));
     let at = 23 + 20 * hashes;
     Told {
         answer: Answer::Right {
-            count: octets::words::word_at(f, 20),
+            count: bits::words::word_at(f, 20),
             hashes: hashes,
             hashes_at: 23,
             payload_at: at,
@@ -89,7 +89,7 @@ fn list_in(f: &[u8]) -> Told
     requires { ⌜ 5 ≤ length (now f) ⌝ }
     ensures { λ r. ⌜ r ≡ listIn (now (f .entry)) ⌝ }
 {
-    let more = octets::bits::flag_of(f[4]) == 1;
+    let more = bits::fields::flag_of(f[4]) == 1;
     without_key(Answer::Handles {
         more: more,
         handles: (f.len() - 5) / 10,
@@ -112,7 +112,7 @@ fn info_in(f: &[u8]) -> Told
     ensures { λ r. ⌜ r ≡ infoIn (now (f .entry)) ⌝ }
 {
     without_key(Answer::Counted {
-        count: octets::words::word_at(f, 4),
+        count: bits::words::word_at(f, 4),
         payload_at: 6,
         payload_length: f.len() - 6,
     })
@@ -152,7 +152,7 @@ fn tell(f: &[u8]) -> Told
     if !crate::shape::is_reply(f) {
         return malformed();
     }
-    let kind = octets::bits::frame_kind(f[0]);
+    let kind = bits::fields::frame_kind(f[0]);
     let status = f[1];
     if status > 8 {
         return malformed();

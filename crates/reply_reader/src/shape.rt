@@ -23,8 +23,8 @@ pub fn is_reply(f: &[u8]) -> bool
     if f.len() < 4 {
         return false;
     }
-    let n = wide16(octets::words::word_at(f, 2));
-    (f.len() == 4 + n) & (octets::bits::frame_version(f[0]) == 1)
+    let n = wide16(bits::words::word_at(f, 2));
+    (f.len() == 4 + n) & (bits::fields::frame_version(f[0]) == 1)
 }
 
 // "the body is empty".
@@ -41,8 +41,8 @@ pub fn is_right(f: &[u8]) -> bool
     if f.len() < 24 {
         return false;
     }
-    let hashes = wide8(octets::bits::count_of(f[22]));
-    let rest = octets::bits::count_rest(f[22]);
+    let hashes = wide8(bits::fields::count_of(f[22]));
+    let rest = bits::fields::count_rest(f[22]);
     let at = 23 + 20 * hashes;
     (hashes <= 8) & (rest == 0) & (at < f.len()) & (f.len() <= at + 4096)
 }
@@ -61,7 +61,7 @@ pub fn is_list(f: &[u8]) -> bool
     if f.len() < 5 {
         return false;
     }
-    let rest = octets::bits::flag_rest(f[4]);
+    let rest = bits::fields::flag_rest(f[4]);
     let size = f.len() - 5;
     (rest == 0) & (size % 10 == 0) & (size <= 150)
 }

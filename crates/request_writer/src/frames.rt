@@ -24,8 +24,8 @@ fn put_handle(out: &mut [u8], kind: u8, n: u16, handle: [u8; 10])
 fn counted(word: u16, hashes: u8) -> [u8; 3]
     ensures { λ r. ⌜ r ≡ word-bytes word ++ (hashes ∷ []) ⌝ }
 {
-    let high = octets::words::high_of(word);
-    let low = octets::words::low_of(word);
+    let high = bits::words::high_of(word);
+    let low = bits::words::low_of(word);
     [high, low, hashes]
 }
 
@@ -113,7 +113,7 @@ pub fn write_right(out: &mut [u8], p: Plain, n: u8, hashes: &[u8], payload: &[u8
         handle,
         key,
         p.count,
-        octets::bits::count_byte(n),
+        bits::fields::count_byte(n),
     );
     octets::put::put_bytes(out, 33, hashes);
     octets::put::put_bytes(out, behind, payload);

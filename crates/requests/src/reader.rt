@@ -65,7 +65,7 @@ fn read_setup(f: &[u8], n: usize, verdict: u8) -> Asked
     if verdict == 0 {
         return crate::asked::refuse(Why::Integrity);
     }
-    let length = octets::words::word_at(f, 14);
+    let length = bits::words::word_at(f, 14);
     crate::asked::with_handle(f, Body::Setup { length: length })
 }
 
@@ -80,7 +80,7 @@ fn read_enable(f: &[u8], n: usize, verdict: u8) -> Asked
     if verdict == 0 {
         return crate::asked::refuse(Why::Integrity);
     }
-    let count = octets::words::word_at(f, 14);
+    let count = bits::words::word_at(f, 14);
     crate::asked::with_handle(f, Body::Enable { count: count })
 }
 
@@ -89,11 +89,11 @@ fn install_fields(f: &[u8], n: usize) -> Asked
     requires { ⌜ (length (now f) ≡ 4 + n) × (30 ≤ n) ⌝ }
     ensures { λ r. ⌜ r ≡ ofInstall n (now (f .entry)) ⌝ }
 {
-    let hashes = wide(octets::bits::count_of(f[32]));
+    let hashes = wide(bits::fields::count_of(f[32]));
     if hashes > 8 {
         return crate::asked::refuse(Why::Parameter);
     }
-    if octets::bits::count_rest(f[32]) != 0 {
+    if bits::fields::count_rest(f[32]) != 0 {
         return crate::asked::refuse(Why::Parameter);
     }
     let start = 29 + 20 * hashes;
@@ -165,21 +165,21 @@ fn read_frame(f: &[u8]) -> Asked
     if f.len() < 4 {
         return crate::asked::refuse(Why::NoFrame);
     }
-    let n = wide_word(octets::words::word_at(f, 2));
+    let n = wide_word(bits::words::word_at(f, 2));
     if f.len() != 4 + n {
         return crate::asked::refuse(Why::NoFrame);
     }
-    if octets::bits::frame_version(f[0]) != 1 {
+    if bits::fields::frame_version(f[0]) != 1 {
         return crate::asked::refuse(Why::Parameter);
     }
-    if octets::bits::flag_rest(f[1]) != 0 {
+    if bits::fields::flag_rest(f[1]) != 0 {
         return crate::asked::refuse(Why::Parameter);
     }
     read_kind(
         f,
-        octets::bits::frame_kind(f[0]),
+        bits::fields::frame_kind(f[0]),
         n,
-        octets::bits::flag_of(f[1]),
+        bits::fields::flag_of(f[1]),
     )
 }
 

@@ -12,7 +12,7 @@ fn is_under(s: &[u8], h: &[u8]) -> bool
     requires { ⌜ (length (now s) ≡ 4288) × (length (now h) ≡ 10) ⌝ }
     ensures { λ r. ⌜ r ≡ named (now (h .entry)) (unpack (now (s .entry))) ⌝ }
 {
-    if octets::bits::slot_place(s[0]) == 0 {
+    if bits::fields::slot_place(s[0]) == 0 {
         return false;
     }
     octets::compare::same_from(h, s, 1)

@@ -14,7 +14,7 @@ pub fn has_some(s: &[u8], q: [[u8; 20]; 8], n: usize) -> bool
     requires { ⌜ (n ≤ 8) × (length (now s) ≡ 4288) × (hashCountOf (now s) ≤ 8) ⌝ }
     ensures { λ r. ⌜ r ≡ any (λ x. any (same x) (rightOf (now (s .entry)) .hashes)) (take n q) ⌝ }
 {
-    let count = octets::bits::slot_hashes(s[0]) as usize;
+    let count = bits::fields::slot_hashes(s[0]) as usize;
     let mut i = 0;
     while i < count {
         if octets::compare::any_hash_at(q, n, s, 31 + 20 * i) {

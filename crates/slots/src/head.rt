@@ -18,8 +18,8 @@ pub fn head_of(s: &[u8]) -> Head
 {
     Head {
         place: crate::place::place_of(s),
-        hashes: octets::bits::slot_hashes(s[0]) as usize,
-        count: octets::words::word_at(s, 27),
-        length: octets::words::word_at(s, 29) as usize,
+        hashes: bits::fields::slot_hashes(s[0]) as usize,
+        count: bits::words::word_at(s, 27),
+        length: bits::words::word_at(s, 29) as usize,
     }
 }

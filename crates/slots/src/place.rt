@@ -17,7 +17,7 @@ pub fn place_of(s: &[u8]) -> Place
     requires { ⌜ 0 < length (now s) ⌝ }
     ensures { λ r. ⌜ placeNumber r ≡ placeOf (now (s .entry)) ⌝ }
 {
-    match octets::bits::slot_place(s[0]) {
+    match bits::fields::slot_place(s[0]) {
         0 => Place::Empty,
         1 => Place::Reserved,
         2 => Place::Enabled,

@@ -12,7 +12,7 @@ pub fn lowest_empty(t: &[u8]) -> usize
     let mut i = 0;
     while i < n {
         let s = slot_at(t, i);
-        if octets::bits::slot_place(s[0]) == 0 {
+        if bits::fields::slot_place(s[0]) == 0 {
             return i;
         }
         i += 1;

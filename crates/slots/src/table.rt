@@ -29,7 +29,7 @@ fn stands_again(t: &[u8], i: usize) -> bool
     ensures { λ r. ⌜ r ≡ again (drop i (slotsOf (now (t .entry)))) ⌝ }
 {
     let s = slot_at(t, i);
-    if octets::bits::slot_place(s[0]) == 0 {
+    if bits::fields::slot_place(s[0]) == 0 {
         return false;
     }
     crate::handle::in_use_from(t, &s[1..11], i + 1)

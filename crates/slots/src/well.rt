@@ -21,7 +21,7 @@ fn well_taken(s: &[u8], head: Head) -> bool
     if length > 4096 {
         return false;
     }
-    let spare = octets::bits::slot_spare(s[0]);
+    let spare = bits::fields::slot_spare(s[0]);
     let gap = octets::zero::zero_part(s, 31 + 20 * hashes, 191);
     let rest = octets::zero::zero_part(s, 192 + length, 4288);
     (spare == 0) & (s[191] == 0) & gap & rest & (0 < length)

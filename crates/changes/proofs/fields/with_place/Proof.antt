@@ -1,7 +1,7 @@
 -- `changes::fields::with_place` meets its contract: the two fields are disjoint. Assumes nothing.
 use native.Mathlib.Omega.{arith}
 use lib.Bits.{bitAnd, and-mask, mask-lt}
-use Rattle.octets.proofs.Fields.{join}
+use Rattle.bits.proofs.Joining.{join}
 use Rattle.changes.proofs.fields.with_place.Statement.{statement}
 use Rattle.changes.proofs.fields.with_place.Tie as tie
 

@@ -4,7 +4,7 @@ use borrow.Author.Needs.{needs}
 use Rattle.octets.proofs.put.put_word.Statement.{statement}
 use Rattle.octets.proofs.put.put_word.Tie as tie
 use Rattle.octets.proofs.put.put_bytes.Reads as put-bytes-reads
-use Rattle.octets.proofs.words.bytes_of.Reads as bytes-of-reads
+use Rattle.bits.proofs.words.bytes_of.Reads as bytes-of-reads
 
 bytes-of-requires : tie.Need-bytes-of-requires
 bytes-of-requires c κs = search needs

@@ -1,0 +1,2 @@
+-- The law that the builders of bit fields cite.
+pub mod Joining
