@@ -1,0 +1,44 @@
+// What a front end or a device links: the functions of the card profile under C's calling convention. Each is thin, asks
+// nothing of what it is lent, and promises what the function it calls promises. A slice is a pointer, then a length.
+use request_writer::given::Plain;
+ghost use mathlib.Core.Path.{_≡_};
+ghost use Rattle.profile.specs.Agent.{agent as agentOf};
+ghost use Rattle.profile.specs.Device.{write};
+ghost use Rattle.agent.specs.Call.{outcome, callOf};
+ghost use Rattle.request_writer.specs.Writing.{wrote};
+ghost use Rattle.cavernlull.specs.Given.{fields};
+
+// "One call takes a request frame, a lent table of slots and a lent reply buffer."
+#[no_mangle]
+pub extern "C" fn cavernlull_call(table: &mut [u8], frame: &[u8], reply: &mut [u8]) -> u16
+    ensures { λ r. ⌜ outcome r (now (reply .exit)) (now (table .exit)) ≡ agentOf (now (table .entry)) (callOf (now (frame .entry)) (now (reply .entry))) ⌝ }
+{
+    agent::call(table, frame, reply)
+}
+
+// "The writer takes a kind and fields": every field of any kind, where those that the kind lacks are empty or zero.
+#[no_mangle]
+pub extern "C" fn cavernlull_write_request(
+    kind: u8,
+    handle: &[u8; 10],
+    new: &[u8; 10],
+    key: &[u8; 16],
+    room: u16,
+    count: u16,
+    limit: u16,
+    hashes: &[u8],
+    payload: &[u8],
+    out: &mut [u8],
+) -> u16
+    ensures { λ r. ⌜ wrote r (now (out .exit)) ≡ write kind (fields (now (handle .entry)) (now (new .entry)) (now (key .entry)) room count limit (now (hashes .entry)) (now (payload .entry))) (now (out .entry)) ⌝ }
+{
+    let plain = Plain {
+        handle: *handle,
+        new: *new,
+        key: *key,
+        room: room,
+        count: count,
+        limit: limit,
+    };
+    request_writer::writer::write_request(kind, plain, hashes, payload, out)
+}

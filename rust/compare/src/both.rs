@@ -1,0 +1,42 @@
+//! One call after another, by the archive and by the reference.
+
+use crate::driver::{Call, Driver};
+
+/// A table lent to the archive, and its equal lent to the reference.
+pub struct Both {
+    driver: Driver,
+    table: Vec<u8>,
+}
+
+impl Both {
+    /// With this table at first.
+    pub fn on(table: Vec<u8>) -> Both {
+        let mut driver = Driver::start();
+        let sent = driver.commands.table(&table);
+        sent.expect("the driver takes the table");
+        Both { driver, table }
+    }
+
+    /// Makes a call with this frame and this reply buffer.
+    ///
+    /// # Panics
+    ///
+    /// Where the archive and the reference differ.
+    pub fn call(&mut self, frame: &[u8], buffer: &[u8]) -> Call {
+        let commands = &mut self.driver.commands;
+        let sent = commands.call(frame, buffer).and_then(|()| commands.send());
+        sent.expect("the driver takes the call");
+        let given = self.driver.answers.call();
+        let mut reply = buffer.to_vec();
+        let number = reference::call(&mut self.table, frame, &mut reply);
+        let expected = Call {
+            number,
+            reply,
+            table: self.table.clone(),
+        };
+        if let Err(difference) = given.same_as(&expected) {
+            panic!("a frame of {} bytes: {difference}", frame.len());
+        }
+        given
+    }
+}

@@ -1,0 +1,199 @@
+//! The driver: a program that calls the archive as it is told on its standard
+//! input, and says on its standard output what came of it.
+//!
+//! Commands go in and answers come out in the same order, so many commands
+//! may be on their way at once. Both ends have to be served at the same time,
+//! each from a thread of its own: a pipe that is full stops the driver.
+
+use std::io::{BufReader, BufWriter, Read, Result, Write};
+use std::path::Path;
+use std::process::{Child, ChildStdin, ChildStdout, Command, Stdio};
+
+/// What starts the driver on this machine.
+const RUN: &str = concat!(env!("CARGO_MANIFEST_DIR"), "/../../target/driver/run");
+
+/// Room for some tables on their way.
+const PIPE_BYTES: usize = 1 << 18;
+
+/// A driver that runs.
+pub struct Driver {
+    /// Where commands go in.
+    pub commands: Commands,
+    /// Where answers come out.
+    pub answers: Answers,
+}
+
+impl Driver {
+    /// Starts a driver.
+    ///
+    /// # Panics
+    ///
+    /// Where it has not been built, or cannot be started.
+    pub fn start() -> Driver {
+        assert!(
+            Path::new(RUN).exists(),
+            "there is no driver: `rt staticlib cavernlull` and then `scripts/driver` build target/driver"
+        );
+        let mut child = Command::new(RUN)
+            .stdin(Stdio::piped())
+            .stdout(Stdio::piped())
+            .spawn()
+            .unwrap_or_else(|error| panic!("the driver cannot be started: {error}"));
+        let stdin = child.stdin.take().expect("stdin is a pipe");
+        let stdout = child.stdout.take().expect("stdout is a pipe");
+        Driver {
+            commands: Commands(BufWriter::with_capacity(PIPE_BYTES, stdin)),
+            answers: Answers {
+                stdout: BufReader::with_capacity(PIPE_BYTES, stdout),
+                child,
+            },
+        }
+    }
+}
+
+/// The driver's standard input. Dropping it ends the driver.
+pub struct Commands(BufWriter<ChildStdin>);
+
+impl Commands {
+    /// Sets the table that is lent from here on. There is no answer.
+    ///
+    /// # Errors
+    ///
+    /// Where the driver has ended.
+    pub fn table(&mut self, table: &[u8]) -> Result<()> {
+        self.0.write_all(b"t")?;
+        self.string(table)
+    }
+
+    /// Has `cavernlull_call` called; the answer is a [`Call`].
+    ///
+    /// # Errors
+    ///
+    /// Where the driver has ended.
+    pub fn call(&mut self, frame: &[u8], reply: &[u8]) -> Result<()> {
+        self.0.write_all(b"c")?;
+        self.string(frame)?;
+        self.string(reply)
+    }
+
+    /// Sends what has not been sent yet.
+    ///
+    /// # Errors
+    ///
+    /// Where the driver has ended.
+    pub fn send(&mut self) -> Result<()> {
+        self.0.flush()
+    }
+
+    fn string(&mut self, bytes: &[u8]) -> Result<()> {
+        let length = u32::try_from(bytes.len()).expect("no string is so long");
+        self.0.write_all(&length.to_le_bytes())?;
+        self.0.write_all(bytes)
+    }
+}
+
+/// What a call of `cavernlull_call` gave, and what it left.
+#[derive(Debug, PartialEq, Eq)]
+pub struct Call {
+    /// The number.
+    pub number: u16,
+    /// The whole reply buffer.
+    pub reply: Vec<u8>,
+    /// The whole table.
+    pub table: Vec<u8>,
+}
+
+impl Call {
+    /// Whether this is exactly the call expected.
+    ///
+    /// # Errors
+    ///
+    /// A sentence that names the first thing that differs.
+    pub fn same_as(&self, expected: &Call) -> std::result::Result<(), String> {
+        if self.number != expected.number {
+            let (given, wanted) = (self.number, expected.number);
+            return Err(format!("it gave {given} where {wanted} was expected"));
+        }
+        same_bytes("the reply buffer", &self.reply, &expected.reply)?;
+        same_bytes("the table", &self.table, &expected.table)
+    }
+}
+
+/// Whether lent memory is as expected, and if not, where.
+///
+/// # Errors
+///
+/// A sentence that names the first byte that differs.
+pub fn same_bytes(what: &str, given: &[u8], expected: &[u8]) -> std::result::Result<(), String> {
+    if given == expected {
+        return Ok(());
+    }
+    let differ = |(a, b): (&u8, &u8)| a != b;
+    match given.iter().zip(expected).position(differ) {
+        Some(at) => Err(format!(
+            "byte {at} of {what} is {:#04x} where {:#04x} was expected",
+            given[at], expected[at]
+        )),
+        None => Err(format!("{what} has {} bytes", given.len())),
+    }
+}
+
+/// The driver's standard output.
+pub struct Answers {
+    stdout: BufReader<ChildStdout>,
+    child: Child,
+}
+
+impl Answers {
+    /// The next answer to a call.
+    ///
+    /// # Panics
+    ///
+    /// Where the driver ends before it has answered, by a fault for example.
+    pub fn call(&mut self) -> Call {
+        Call {
+            number: self.number(),
+            reply: self.string(),
+            table: self.string(),
+        }
+    }
+
+    fn number(&mut self) -> u16 {
+        let number = self.word();
+        u16::try_from(number).unwrap_or_else(|_| panic!("the driver answered {number}"))
+    }
+
+    fn string(&mut self) -> Vec<u8> {
+        let mut bytes = vec![0; self.word() as usize];
+        self.fill(&mut bytes);
+        bytes
+    }
+
+    fn word(&mut self) -> u32 {
+        let mut bytes = [0; 4];
+        self.fill(&mut bytes);
+        u32::from_le_bytes(bytes)
+    }
+
+    fn fill(&mut self, bytes: &mut [u8]) {
+        if let Err(error) = self.stdout.read_exact(bytes) {
+            panic!(
+                "the driver gave no answer ({error}): {:?}",
+                self.child.wait()
+            );
+        }
+    }
+
+    /// Sees the driver, whose input has been dropped, end as it should.
+    ///
+    /// # Panics
+    ///
+    /// Where it says more, or ends with another status than 0.
+    pub fn end(mut self) {
+        let mut rest = Vec::new();
+        let read = self.stdout.read_to_end(&mut rest);
+        assert!(read.is_ok() && rest.is_empty(), "the driver says too much");
+        let status = self.child.wait().expect("the driver can be waited for");
+        assert!(status.success(), "the driver ended with {status}");
+    }
+}

@@ -1,0 +1,243 @@
+//! Request frames at random, right and wrong ones.
+
+use crate::rng::Rng;
+use reference::{Handle, HASH_BYTES};
+
+/// A hash.
+type Hash = [u8; HASH_BYTES];
+
+/// The highest bit of the second byte: "1 means the MAC held".
+const VERDICT: u8 = 0x80;
+
+/// The kinds that are "not 1 to 9".
+pub const KINDS_OUTSIDE: [u8; 23] = [
+    0, 10, 11, 12, 13, 14, 15, 16, 17, 18, 19, 20, 21, 22, 23, 24, 25, 26, 27, 28, 29, 30, 31,
+];
+
+/// Makes frames about few handles and few hashes, so that requests meet each
+/// other and every status comes up.
+pub struct Asker {
+    handles: Vec<Handle>,
+    hashes: Vec<Hash>,
+}
+
+impl Asker {
+    /// For a table of so many slots: two more handles than slots.
+    pub fn new(slots: usize) -> Self {
+        Asker {
+            handles: (0..slots + 2).map(near).collect(),
+            hashes: (0..6).map(near).collect(),
+        }
+    }
+
+    fn handle(&self, rng: &mut Rng) -> Handle {
+        rng.pick(&self.handles)
+    }
+
+    /// Up to 8 hashes, one after another; the same may come twice.
+    fn hashes(&self, rng: &mut Rng) -> Vec<u8> {
+        let count = rng.pick(&[0, 0, 0, 1, 1, 1, 2, 3, 7, 8]);
+        (0..count).flat_map(|_| rng.pick(&self.hashes)).collect()
+    }
+
+    /// A frame; one in five is spoiled, some of them more than once.
+    pub fn frame(&self, rng: &mut Rng) -> Vec<u8> {
+        let kind = rng.pick(&[1, 1, 1, 1, 2, 2, 2, 2, 3, 3, 4, 4, 5, 5, 6, 7, 8, 8, 9]);
+        let mut frame = frame(kind, VERDICT, &self.body(rng, kind));
+        let mut again = 5;
+        while rng.one_in(again) {
+            self.spoil(rng, &mut frame);
+            again = 3;
+        }
+        frame
+    }
+
+    /// A body of the kind's shape.
+    fn body(&self, rng: &mut Rng, kind: u8) -> Vec<u8> {
+        let handle = self.handle(rng);
+        match kind {
+            1 => [&handle[..], &room(rng).to_be_bytes()].concat(),
+            2 => {
+                let length = payload_length(rng);
+                self.installation(rng, &handle, length)
+            }
+            3 | 4 => [handle, self.handle(rng)].concat(),
+            5 => [&handle[..], &count(rng).to_be_bytes()].concat(),
+            8 => self.list(rng),
+            _ => handle.to_vec(),
+        }
+    }
+
+    fn installation(&self, rng: &mut Rng, handle: &Handle, payload: usize) -> Vec<u8> {
+        let key = match rng.below(8) {
+            0 => vec![0; 16],
+            _ => rng.bytes(16),
+        };
+        let hashes = self.hashes(rng);
+        [
+            handle,
+            &key[..],
+            &count(rng).to_be_bytes(),
+            &[hash_count(&hashes) << 4],
+            &hashes,
+            &rng.bytes(payload),
+        ]
+        .concat()
+    }
+
+    fn list(&self, rng: &mut Rng) -> Vec<u8> {
+        let limit: u16 = match rng.below(3) {
+            0 => 0,
+            1 => rng.below(170) as u16,
+            _ => rng.pick(&[1, 9, 10, 11, 19, 20, 149, 150, 151, 0xFFFF]),
+        };
+        let hashes = self.hashes(rng);
+        [
+            &limit.to_be_bytes()[..],
+            &[hash_count(&hashes)],
+            &hashes[..],
+        ]
+        .concat()
+    }
+
+    /// Changes a frame in a way that some test should notice.
+    fn spoil(&self, rng: &mut Rng, frame: &mut Vec<u8>) {
+        if frame.len() < 4 {
+            return frame.push(rng.byte());
+        }
+        match rng.below(6) {
+            0 => spoil_first(rng, frame),
+            1 => spoil_second(rng, frame),
+            2 => spoil_length(rng, frame),
+            3 => spoil_hash_count(rng, frame),
+            4 => {
+                let index = rng.below(frame.len());
+                frame[index] ^= rng.bit(8);
+            }
+            _ => *frame = self.edge(rng),
+        }
+    }
+
+    /// A frame that is at the edge of what its kind may be.
+    fn edge(&self, rng: &mut Rng) -> Vec<u8> {
+        let handle = self.handle(rng);
+        let kind = 1 + rng.below(9) as u8;
+        let any = |rng: &mut Rng, length| frame(kind, VERDICT, &rng.bytes(length));
+        match rng.below(12) {
+            0 => any(rng, 0),
+            1 => any(rng, 0xFFFF),
+            2..5 => {
+                let length = rng.pick(&[9, 11, 12, 13, 19, 20, 21, 29, 30, 31]);
+                any(rng, length)
+            }
+            _ => {
+                let length = rng.pick(&[0, 0, 1, 4096, 4097]);
+                frame(2, VERDICT, &self.installation(rng, &handle, length))
+            }
+        }
+    }
+}
+
+/// Version and kind.
+fn spoil_first(rng: &mut Rng, frame: &mut [u8]) {
+    frame[0] = match rng.below(4) {
+        0 => rng.byte(),
+        1 => frame[0] ^ (1 << (5 + rng.below(3))),
+        2 => 0x20 + 1 + rng.below(9) as u8,
+        _ => 0x20 + rng.pick(&KINDS_OUTSIDE),
+    };
+}
+
+/// Verdict and zero bits.
+fn spoil_second(rng: &mut Rng, frame: &mut [u8]) {
+    frame[1] = match rng.below(4) {
+        0 => frame[1] ^ rng.bit(7),
+        1 => rng.byte(),
+        _ => 0,
+    };
+}
+
+/// The length in the frame, or the frame's own.
+fn spoil_length(rng: &mut Rng, frame: &mut Vec<u8>) {
+    let more = 1 + rng.below(30);
+    match rng.below(5) {
+        0 => frame[2 + rng.below(2)] ^= rng.bit(8),
+        1 => frame.truncate(rng.below(frame.len())),
+        2 => frame.extend(rng.bytes(more)),
+        3 => {
+            frame.truncate(4 + rng.below(frame.len() - 3));
+            say_length(frame);
+        }
+        _ => {
+            frame.extend(rng.bytes(more));
+            say_length(frame);
+        }
+    }
+}
+
+/// The hash count of kind 2 or of kind 8, if the frame has such a byte.
+fn spoil_hash_count(rng: &mut Rng, frame: &mut [u8]) {
+    let (at, counts) = match frame[0] & 31 {
+        2 => (32, [0x10, 0x90, 0xF0, 0x81, 0x04]),
+        _ => (6, [1, 8, 9, 16, 255]),
+    };
+    if let Some(byte) = frame.get_mut(at) {
+        *byte = rng.pick(&counts);
+    }
+}
+
+/// A length in the frame that fits the frame.
+fn say_length(frame: &mut [u8]) {
+    let length = (frame.len() - 4) as u16;
+    frame[2..4].copy_from_slice(&length.to_be_bytes());
+}
+
+/// A frame of version 1.
+///
+/// # Panics
+///
+/// Where the kind has more than 5 bits or the body's length more than 16.
+pub fn frame(kind: u8, second: u8, body: &[u8]) -> Vec<u8> {
+    assert!(kind < 32);
+    let length = u16::try_from(body.len()).expect("a body is no longer");
+    let head = [&[0x20 + kind, second][..], &length.to_be_bytes()].concat();
+    [&head, body].concat()
+}
+
+/// Bytes that differ from the others in one byte or two, and for 0 zeros.
+fn near<const N: usize>(index: usize) -> [u8; N] {
+    let mut bytes = [0x11; N];
+    bytes[index * 7 % N] ^= index as u8;
+    match index {
+        0 => [0; N],
+        _ => bytes,
+    }
+}
+
+/// The room that a setup asks for.
+fn room(rng: &mut Rng) -> u16 {
+    match rng.below(20) {
+        0 => rng.pick(&[0, 0, 4097, 0x8001, 0xFFFF]),
+        1..10 => 4096,
+        _ => 1 + rng.below(40) as u16,
+    }
+}
+
+fn payload_length(rng: &mut Rng) -> usize {
+    match rng.below(10) {
+        0 => 1,
+        1 => rng.pick(&[4095, 4096, 4096]),
+        _ => 1 + rng.below(40),
+    }
+}
+
+fn count(rng: &mut Rng) -> u16 {
+    match rng.below(4) {
+        0 => 0,
+        _ => rng.word(),
+    }
+}
+
+fn hash_count(hashes: &[u8]) -> u8 {
+    (hashes.len() / HASH_BYTES) as u8
+}

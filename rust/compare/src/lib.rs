@@ -1,0 +1,32 @@
+//! The comparison of the proved archive with [`reference`], byte for byte.
+//!
+//! The archive is x86-64 code. It is called by a small C program, the driver
+//! (`tests/c/driver.c`, built by `scripts/driver`), which runs on any machine
+//! that has the Rattle toolchain, under its emulator if need be. [`driver`]
+//! starts it and speaks with it; the tests make calls at random, give each to
+//! the archive and to the reference, and hold number, reply buffer and table
+//! of the one against those of the other.
+//!
+//! | | |
+//! |---|---|
+//! | [`driver`] | the driver, and the commands that it takes |
+//! | [`rng`] | random numbers, from a seed that is printed |
+//! | [`frames`] | request frames at random, right and wrong ones |
+//! | [`tables`] | damaged tables, and reply buffers |
+//! | [`calls`] | many calls, made at random and checked |
+//! | [`both`] | one call after another, on a table chosen by a test |
+//! | [`outcome`] | which outcomes there were, and which there must be |
+//!
+//! `COMPARE_SEED` sets another seed and `COMPARE_CALLS` another number of
+//! calls, both in decimal.
+
+#![forbid(unsafe_code)]
+#![warn(missing_docs)]
+
+pub mod both;
+pub mod calls;
+pub mod driver;
+pub mod frames;
+pub mod outcome;
+pub mod rng;
+pub mod tables;

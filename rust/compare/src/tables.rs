@@ -1,0 +1,80 @@
+//! Damaged tables, and reply buffers.
+
+use crate::rng::Rng;
+use reference::{MAX_SLOTS, REPLY_ROOM, SLOT_BYTES};
+
+/// A table of empty slots.
+pub fn blank(slots: usize) -> Vec<u8> {
+    vec![0; slots * SLOT_BYTES]
+}
+
+/// A whole table with some damage. Not every damage is one that makes it ill
+/// formed: a bit of a payload may be any.
+pub fn damaged(rng: &mut Rng, table: &[u8]) -> Vec<u8> {
+    let mut table = table.to_vec();
+    match rng.below(4) {
+        0 => wrong_length(rng, &mut table),
+        1 => two_alike(rng, &mut table),
+        _ => one_byte(rng, &mut table),
+    }
+    table
+}
+
+/// Another length, filled with zeros. The longest table there is and a table
+/// of one slot more are among them.
+fn wrong_length(rng: &mut Rng, table: &mut Vec<u8>) {
+    let length = match rng.below(8) {
+        0 => 0,
+        1 => SLOT_BYTES - 1,
+        2 => SLOT_BYTES + 1,
+        3 => MAX_SLOTS * SLOT_BYTES,
+        4 => (MAX_SLOTS + 1) * SLOT_BYTES,
+        5 => table.len() - 1,
+        6 => table.len() + 1,
+        _ => rng.below(table.len()),
+    };
+    table.resize(length, 0);
+}
+
+/// A slot, or its handle alone, copied over that of another.
+fn two_alike(rng: &mut Rng, table: &mut [u8]) {
+    let slots = table.len() / SLOT_BYTES;
+    let from = rng.below(slots) * SLOT_BYTES;
+    let to = rng.below(slots) * SLOT_BYTES;
+    match rng.below(2) {
+        0 => table.copy_within(from..from + SLOT_BYTES, to),
+        _ => table.copy_within(from + 1..from + 11, to + 1),
+    }
+}
+
+/// One byte of a slot: any, or one that a rule is about.
+fn one_byte(rng: &mut Rng, table: &mut [u8]) {
+    let slot = rng.below(table.len() / SLOT_BYTES) * SLOT_BYTES;
+    let at = slot
+        + match rng.below(10) {
+            0..2 => 0,
+            2 => 1 + rng.below(10),
+            3 => 11 + rng.below(18),
+            4..6 => 29 + rng.below(2),
+            6 => 31 + rng.below(160),
+            7 => 191,
+            8 => rng.pick(&[192, 193, 232, 233, 4286, 4287]),
+            _ => rng.below(SLOT_BYTES),
+        };
+    table[at] = match rng.below(3) {
+        0 => rng.byte(),
+        _ => table[at] ^ rng.bit(8),
+    };
+}
+
+/// A reply buffer, now and then too short. No two neighbours are equal in it,
+/// so that a byte which was written or moved shows.
+pub fn reply_buffer(rng: &mut Rng) -> Vec<u8> {
+    let room = match rng.below(20) {
+        0 => rng.pick(&[0, 1, 4, REPLY_ROOM - 1, REPLY_ROOM - 1]),
+        1..10 => REPLY_ROOM,
+        _ => rng.pick(&[REPLY_ROOM + 1, REPLY_ROOM + 2, REPLY_ROOM + 40]),
+    };
+    let first = rng.below(256);
+    (0..room).map(|i| (first + i * 29) as u8).collect()
+}

@@ -1,0 +1,161 @@
+/* Calls the functions of libcavernlull.a as standard input says, and writes what they gave to standard output.
+ *
+ * A command is one byte and its arguments. A byte string is its length, as a number of 32 bits, and its bytes; numbers
+ * have their low byte first.
+ *
+ *   command  arguments      answer
+ *   t        table          none: the table that is lent from here on
+ *   c        frame, reply   number (32 bits), then as byte strings reply and table, as cavernlull_call left them
+ *
+ * Every byte string is lent so that it ends where memory ends: one byte read or written behind it is a fault.
+ * It ends with status 0 at the end of the input, and with 2 where the input is no command or too long.
+ *
+ * It is freestanding, so that the compiler and the linker are all that building it needs.
+ */
+#include "cavernlull.h"
+
+enum { CALL_READ = 0, CALL_WRITE = 1, CALL_MPROTECT = 10, CALL_EXIT = 60 };
+
+static long system_call(long number, long a, long b, long c) {
+    long given;
+    __asm__ volatile("syscall" : "=a"(given) : "a"(number), "D"(a), "S"(b), "d"(c) : "rcx", "r11", "memory");
+    return given;
+}
+
+static _Noreturn void leave(int status) {
+    for (;;) system_call(CALL_EXIT, status, 0, 0);
+}
+
+/* What the archive asks for; -ffreestanding keeps the compiler from turning these loops into calls of themselves. */
+void *memcpy(void *restrict to, const void *restrict from, size_t length) {
+    uint8_t *restrict d = to;
+    const uint8_t *restrict s = from;
+    for (size_t i = 0; i < length; i++) d[i] = s[i];
+    return to;
+}
+
+void *memset(void *to, int byte, size_t length) {
+    uint8_t *d = to;
+    for (size_t i = 0; i < length; i++) d[i] = (uint8_t)byte;
+    return to;
+}
+
+/* ---- input and output, through buffers; what is written goes out before more input is waited for */
+enum { BUFFER = 1 << 18 };
+
+static uint8_t input[BUFFER], output[BUFFER];
+static size_t taken, filled, held;
+
+static void flush(void) {
+    for (size_t sent = 0; sent < held;) {
+        long n = system_call(CALL_WRITE, 1, (long)(output + sent), (long)(held - sent));
+        if (n <= 0) leave(2);
+        sent += (size_t)n;
+    }
+    held = 0;
+}
+
+/* Fills the input buffer again; gives 0 at the end of the input. */
+static int refill(void) {
+    flush();
+    long n = system_call(CALL_READ, 0, (long)input, BUFFER);
+    if (n < 0) leave(2);
+    taken = 0;
+    filled = (size_t)n;
+    return n > 0;
+}
+
+static void take(uint8_t *to, size_t length) {
+    while (length > 0) {
+        if (taken == filled && !refill()) leave(2);
+        size_t n = filled - taken < length ? filled - taken : length;
+        memcpy(to, input + taken, n);
+        taken += n;
+        to += n;
+        length -= n;
+    }
+}
+
+static void give(const uint8_t *from, size_t length) {
+    while (length > 0) {
+        if (held == BUFFER) flush();
+        size_t n = BUFFER - held < length ? BUFFER - held : length;
+        memcpy(output + held, from, n);
+        held += n;
+        from += n;
+        length -= n;
+    }
+}
+
+static uint32_t take_number(void) {
+    uint8_t b[4];
+    take(b, 4);
+    return (uint32_t)b[0] | (uint32_t)b[1] << 8 | (uint32_t)b[2] << 16 | (uint32_t)b[3] << 24;
+}
+
+static void give_number(uint32_t n) {
+    uint8_t b[4] = {(uint8_t)n, (uint8_t)(n >> 8), (uint8_t)(n >> 16), (uint8_t)(n >> 24)};
+    give(b, 4);
+}
+
+/* ---- memory to lend */
+enum { ROOM = 1 << 17, PAGE = 1 << 16 };
+
+/* ROOM bytes, and behind them a page that can be neither read nor written. */
+struct area {
+    _Alignas(PAGE) uint8_t bytes[ROOM];
+    _Alignas(PAGE) uint8_t wall[PAGE];
+};
+
+/* The last `length` bytes of an area. */
+struct lent {
+    uint8_t *at;
+    size_t length;
+};
+
+static void wall_off(struct area *area) {
+    if (system_call(CALL_MPROTECT, (long)area->wall, PAGE, 0) != 0) leave(2);
+}
+
+static struct lent take_string(struct area *area) {
+    size_t length = take_number();
+    if (length > ROOM) leave(2);
+    struct lent lent = {area->bytes + ROOM - length, length};
+    take(lent.at, lent.length);
+    return lent;
+}
+
+static void give_string(struct lent lent) {
+    give_number((uint32_t)lent.length);
+    give(lent.at, lent.length);
+}
+
+/* ---- the commands */
+static struct area table_area, frame_area, buffer_area;
+static struct lent table = {table_area.wall, 0};
+
+static void call(void) {
+    struct lent frame = take_string(&frame_area);
+    struct lent reply = take_string(&buffer_area);
+    give_number(cavernlull_call(table.at, table.length, frame.at, frame.length, reply.at, reply.length));
+    give_string(reply);
+    give_string(table);
+}
+
+static _Noreturn __attribute__((used)) void run(void) {
+    wall_off(&table_area);
+    wall_off(&frame_area);
+    wall_off(&buffer_area);
+    while (taken < filled || refill()) {
+        switch (input[taken++]) {
+        case 't': table = take_string(&table_area); break;
+        case 'c': call(); break;
+        default: leave(2);
+        }
+    }
+    leave(0);
+}
+
+__attribute__((naked)) void _start(void) {
+    __asm__("xor %ebp, %ebp\n\tcall run\n\thlt");
+}

@@ -1,0 +1,9 @@
+/* What the driver needs of the standard header, for a compiler that comes without its own. */
+#ifndef STDINT_H
+#define STDINT_H
+
+typedef __UINT8_TYPE__ uint8_t;
+typedef __UINT16_TYPE__ uint16_t;
+typedef __UINT32_TYPE__ uint32_t;
+
+#endif
