@@ -1,10 +1,10 @@
 -- The whole listing: refused, or a header and the lines. Assumes nothing.
 use Prim.Native.Nat.{ℕ, _≤_}
-use mathlib.Core.Path.{_≡_, ap, _∙_}
+use mathlib.Core.Path.{_≡_, _∙_}
 use mathlib.Core.Bool.{true, false}
 use native.Mathlib.Omega.{arith}
 use native.Mathlib.Nat.{zero-add}
-use lib.ListN.{length, length-append, length-drop}
+use lib.ListN.{length, length-append}
 use Rattle.profile.specs.Bytes.{Bytes, over}
 use Rattle.profile.specs.Table.{wholeSlots, wellTable}
 use Rattle.profile.specs.Listing.{header, listing}
@@ -29,7 +29,7 @@ module _ (t : Bytes) {d d' : Bytes} {end : ℕ} where
   unfolding listing linesOf
   listed-lines fit w v = listed (rw (fit .whole, fit .well)) (wrote-then w v)
 
--- a listing that stands at the start of a buffer is no longer than the buffer
-pub listing-fits : (t d d' : Bytes) → d' ≡ over (listing t) d → length d' ≡ length d → length (listing t) ≤ length d
+-- a listing that stands at the start of a buffer ends within it
+pub listing-inside : (t d d' : Bytes) (end : ℕ) → end ≡ length (listing t) → d' ≡ over (listing t) d → end ≤ length d'
 unfolding over
-listing-fits t d d' e same = omega (arith, simp (length-append, length-drop) at (ap length e))
+listing-inside t d d' end e f = rw f (simp length-append (omega arith))
