@@ -103,6 +103,14 @@ module _ (s : Bytes) (well : wellSlot s ≡ true) where
       go (suc zero) at = well-reserved s (rw at at placed) .long
       go (suc (suc n)) at = from-1-to-says 4096 (word 29 s) (rw at at placed)
 
+  -- and an empty one has length 0
+  pub length-most-4096 : word 29 s ≤ 4096
+  length-most-4096 = go (placeOf s) refl
+    where
+      go : (p : ℕ) → placeOf s ≡ p → word 29 s ≤ 4096
+      go zero at = let z : allZero s ≡ true = sym (well-empty s at) ∙ well in omega (arith, zero-byte s 29 z, zero-byte s 30 z)
+      go (suc p) at = length-1-to-4096 (λ e. omega (arith, e)) .1
+
 -- ---- the slots of a well-formed table
 all-at : {A : Type 0} (f : A → Bool) (xs : List A) (i : ℕ) (d : A) → all f xs ≡ true → i < length xs → f (getD xs i d) ≡ true
 all-at f [] i d a h = absurd (not-suc-le-zero h)

@@ -1,0 +1,76 @@
+-- `listing::lines::put_lines` meets its contract. The invariant: the lines of the slots passed stand in the buffer. Assumes nothing.
+use denote.Ref.{now}
+use Prim.Native.Nat.{_≤_, _-_}
+use native.Mathlib.Omega.{arith}
+use borrow.Author.Needs.{needs}
+use Rattle.listing.proofs.Writing.{wrote-length}
+use Rattle.listing.proofs.SlotLines.{Passed, passed-none, passed-all, index-15, room-next, few-next, short-next, pass-next}
+use Rattle.listing.proofs.lines.put_lines.Statement.{statement}
+use Rattle.listing.proofs.lines.put_lines.Tie as tie
+
+abbrev Inv-loop : tie.InvT-loop
+Inv-loop out₀ at table n next₀ i₀ out next i = (i ≤ n) × Passed table out₀ at i out next
+
+abbrev μ-loop : tie.MeasureT-loop
+μ-loop out₀ at table n next₀ i₀ out next i = n - i
+
+loop-holds : tie.Need-loop-holds Inv-loop μ-loop
+loop-holds c =
+    let start = c .before .before in
+    (search needs, passed-none (now (start .args .table)) (now (start .args .out)) (start .args .at) (start .pre .0) (start .pre .1))
+
+slot-at-requires : tie.Need-slot-at-requires Inv-loop μ-loop
+slot-at-requires c κs = search needs
+
+put-line-requires : tie.Need-put-line-requires Inv-loop μ-loop
+put-line-requires c κs =
+    let l = c .before .before .before in
+    let start = l .before .before .before in
+    let t = now (start .args .table) in
+    let b = now (start .args .out) in
+    let below = c .before .before .loop-test .taken in
+    let s = c .slot-at in (
+      omega (arith, index-15 t b (start .args .at) (start .pre .0) (start .pre .1) (l .loop .i) (l .loop .next) (l .loop .out) below (l .loop .inv .1)),
+      s .ensures .1,
+      few-next t b (start .args .at) (start .pre .0) (start .pre .1) (l .loop .i) (l .loop .next) (l .loop .out) below (l .loop .inv .1) (now (s .result)) (s .ensures .0),
+      short-next t b (start .args .at) (start .pre .0) (start .pre .1) (l .loop .i) (l .loop .next) (l .loop .out) below (l .loop .inv .1) (now (s .result)) (s .ensures .0),
+      room-next t b (start .args .at) (start .pre .0) (start .pre .1) (l .loop .i) (l .loop .next) (l .loop .out) below (l .loop .inv .1),
+    )
+
+add-i : tie.Need-add-i Inv-loop μ-loop
+add-i c = search needs
+
+loop-less : tie.Need-loop-less Inv-loop μ-loop
+loop-less c = search needs
+
+loop-again : tie.Need-loop-again Inv-loop μ-loop
+loop-again c =
+    let l = c .before .before .before .before .before .before in
+    let start = l .before .before .before in
+    let s = c .before .before .before .slot-at in
+    let put = c .before .before .put-line in
+    (omega arith, pass-next (now (start .args .table)) (now (start .args .out)) (start .args .at) (start .pre .0) (start .pre .1) (l .loop .i) (l .loop .next) (l .loop .out) (c .before .before .before .before .before .loop-test .taken) (l .loop .inv .1) (now (s .result)) (s .ensures .0) (put .last .0) (put .result) (put .ensures))
+
+same-length : tie.Need-same-length Inv-loop μ-loop
+same-length c = wrote-length (c .before .loop .inv .1 .wrote)
+
+returns : tie.Need-returns Inv-loop μ-loop
+returns c =
+    let l = c .before in
+    let start = l .before .before .before in
+    passed-all (now (start .args .table)) (now (start .args .out)) (start .args .at) (start .pre .0) (start .pre .1) (l .loop .i) (l .loop .next) (l .loop .out) (c .loop-test .left) (l .loop .inv .1)
+
+pub put-lines-spec : {M : Type 1} → statement M
+put-lines-spec =
+    tie.close
+    (tie.spec
+    Inv-loop
+    μ-loop
+    loop-holds
+    slot-at-requires
+    put-line-requires
+    add-i
+    loop-less
+    loop-again
+    same-length
+    returns)

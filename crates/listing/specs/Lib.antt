@@ -1,0 +1,2 @@
+-- What the contracts cite beside the profile's definitions.
+pub mod Written
