@@ -1,0 +1,145 @@
+//! Tables to be listed: made by calls of the agent, by hand, and at random.
+
+use reference::{call, write_request, Fields, Place, HASH_BYTES, REPLY_ROOM, SLOT_BYTES};
+
+/// The largest table, of 64,320 bytes.
+pub const LARGEST: usize = 15 * SLOT_BYTES;
+
+/// What one slot is to say of itself in the listing.
+#[derive(Clone, Copy, Debug)]
+pub struct Said {
+    pub place: Place,
+    pub hashes: u8,
+    pub count: u16,
+    pub length: u16,
+}
+
+/// A slot that is well formed if the numbers are allowed, with ten bytes
+/// `handle` as its handle.
+pub fn slot(handle: u8, said: Said) -> Vec<u8> {
+    let mut slot = vec![0; SLOT_BYTES];
+    slot[0] = (said.place as u8) << 6 | said.hashes << 2;
+    slot[1..11].fill(handle);
+    slot[27..29].copy_from_slice(&said.count.to_be_bytes());
+    slot[29..31].copy_from_slice(&said.length.to_be_bytes());
+    if said.place != Place::Reserved {
+        slot[11..27].fill(0xC0 | handle);
+        slot[31..31 + HASH_BYTES * usize::from(said.hashes)].fill(0x5A);
+        slot[192..192 + usize::from(said.length)].fill(0xA7);
+    }
+    slot
+}
+
+/// A slot of 4,288 zeros.
+pub fn empty() -> Vec<u8> {
+    vec![0; SLOT_BYTES]
+}
+
+/// A slot with a right in it, under ten bytes `handle`.
+pub fn right(place: Place, handle: u8, hashes: u8, count: u16, length: u16) -> Vec<u8> {
+    slot(
+        handle,
+        Said {
+            place,
+            hashes,
+            count,
+            length,
+        },
+    )
+}
+
+/// A slot reserved for a length, under ten bytes `handle`.
+pub fn reserved(handle: u8, length: u16) -> Vec<u8> {
+    right(Place::Reserved, handle, 0, 0, length)
+}
+
+/// The status of a request that the reference carries out on a table.
+pub fn ask(table: &mut [u8], kind: u8, fields: &Fields<'_>) -> u8 {
+    let mut frame = vec![0; 4400];
+    assert_eq!(write_request(kind, fields, &mut frame), 0);
+    let body = usize::from(u16::from_be_bytes([frame[2], frame[3]]));
+    let mut reply = vec![0; REPLY_ROOM];
+    assert_eq!(call(table, &frame[..4 + body], &mut reply), 0);
+    reply[1]
+}
+
+/// Fifteen slots with records of every place among them, made by requests:
+/// setups, installations, lendings, and slots cleared again.
+pub fn by_requests() -> Vec<u8> {
+    let mut table = vec![0; LARGEST];
+    let lengths = [
+        1, 9, 10, 99, 100, 999, 1000, 4095, 4096, 5, 17, 256, 2048, 64, 3,
+    ];
+    for (i, &length) in (0..).zip(&lengths) {
+        let setup = Fields {
+            handle: [i; 10],
+            length,
+            ..Fields::default()
+        };
+        assert_eq!(ask(&mut table, 1, &setup), 0);
+    }
+    for (i, &length) in (0..).zip(&lengths).filter(|(i, _)| i % 5 != 1) {
+        let hashes = vec![i; HASH_BYTES * usize::from(i % 9)];
+        let installation = Fields {
+            handle: [i; 10],
+            key: [i; 16],
+            count: u16::from(i).pow(4),
+            hashes: &hashes,
+            payload: &vec![0xEE; usize::from(length)],
+            ..Fields::default()
+        };
+        assert_eq!(ask(&mut table, 2, &installation), 0);
+    }
+    for (kind, handle) in [(4, 0), (3, 3), (4, 8), (3, 12), (6, 5), (7, 11)] {
+        let request = Fields {
+            handle: [handle; 10],
+            new_handle: [if kind < 5 { 100 + handle } else { 0 }; 10],
+            ..Fields::default()
+        };
+        assert_eq!(ask(&mut table, kind, &request), 0);
+    }
+    table
+}
+
+/// The splitmix64 generator.
+pub struct Rng(pub u64);
+
+impl Rng {
+    /// A number under `bound`.
+    pub fn below(&mut self, bound: usize) -> usize {
+        self.0 = self.0.wrapping_add(0x9E37_79B9_7F4A_7C15);
+        let mut z = self.0;
+        z = (z ^ (z >> 30)).wrapping_mul(0xBF58_476D_1CE4_E5B9);
+        z = (z ^ (z >> 27)).wrapping_mul(0x94D0_49BB_1331_11EB);
+        ((z ^ (z >> 31)) % bound as u64) as usize
+    }
+
+    /// A number of few or many digits, up to `most`.
+    pub fn number(&mut self, most: usize) -> u16 {
+        let bound = [10, 100, 1000, 10_000, 65_536][self.below(5)].min(most + 1);
+        self.below(bound) as u16
+    }
+
+    /// A well-formed slot under ten bytes `handle`.
+    pub fn slot(&mut self, handle: u8) -> Vec<u8> {
+        let place = [Place::Reserved, Place::Enabled, Place::Disabled];
+        let length = 1 + self.number(4095);
+        match self.below(4) {
+            3 => empty(),
+            0 => reserved(handle, length),
+            i => right(
+                place[i],
+                handle,
+                self.below(9) as u8,
+                self.number(65_535),
+                length,
+            ),
+        }
+    }
+
+    /// A well-formed table of 1 to 15 slots.
+    pub fn table(&mut self) -> Vec<u8> {
+        let slots = 1 + self.below(15);
+        (0..slots as u8).flat_map(|i| self.slot(i)).collect()
+    }
+}
