@@ -34,7 +34,10 @@ enum {
     CAVERNLULL_REPLY_BUFFER_SHORT = 101,
     CAVERNLULL_TABLE_LENGTH = 102,
     CAVERNLULL_TABLE_NOT_WELL_FORMED = 103,
-    CAVERNLULL_NO_FRAME = 104
+    CAVERNLULL_NO_FRAME = 104,
+    CAVERNLULL_WRITER_BUFFER_SHORT = 201,
+    CAVERNLULL_WRITER_FIELDS = 202,
+    CAVERNLULL_NO_REPLY = 203
 };
 
 /* Kinds of request, in the low five bits of a frame's first byte. */
@@ -78,6 +81,64 @@ enum {
  */
 uint16_t cavernlull_call(uint8_t *table, size_t table_length, const uint8_t *frame, size_t frame_length,
                          uint8_t *reply, size_t reply_length);
+
+/* The request writer of a device: writes the frame of a kind and its fields at the start of `out`, with the verdict 1.
+ * `handle` and `new_handle` are 10 bytes, `key` is 16. A field that the kind lacks is zero or empty:
+ *
+ *   kind                             fields
+ *   1  Installation Setup            handle, room (the length asked for)
+ *   2  Rights Installation           handle, key, count, hashes, payload
+ *   3  Rights Retrieval              handle, new_handle
+ *   4  REK Query                     handle, new_handle
+ *   5  Rights Enablement             handle, count
+ *   6  Rights Removal                handle
+ *   7  Handle Removal                handle
+ *   8  Handle List Query             limit, hashes
+ *   9  Rights Information Query      handle
+ *
+ * Gives 0, with the frame at the start of `out`; its length is 4 plus the 16-bit number, high byte first, in its third and
+ * fourth bytes. The buffer's bytes past it keep what they held.
+ *
+ * Refuses with the first of these that holds, and then `out` is not changed:
+ *   202 CAVERNLULL_WRITER_FIELDS        the kind is not 1 to 9; the hashes are not 0 to 8 times 20 bytes; kind 2 has a payload
+ *                                       that is not 1 to 4,096 bytes; or a field that the kind lacks is not zero or empty
+ *   201 CAVERNLULL_WRITER_BUFFER_SHORT  the frame does not fit into `out`
+ */
+uint16_t cavernlull_write_request(uint8_t kind, const uint8_t *handle, const uint8_t *new_handle, const uint8_t *key,
+                                  uint16_t room, uint16_t count, uint16_t limit, const uint8_t *hashes,
+                                  size_t hashes_length, const uint8_t *payload, size_t payload_length, uint8_t *out,
+                                  size_t out_length);
+
+/* What the reply reader puts into its ten numbers, by index. An offset counts from the frame's first byte. */
+enum {
+    CAVERNLULL_REPLY_KIND = 0,
+    CAVERNLULL_REPLY_STATUS = 1,
+    CAVERNLULL_REPLY_COUNT = 2,
+    CAVERNLULL_REPLY_HASHES = 3,    /* how many, of 20 bytes each */
+    CAVERNLULL_REPLY_HASHES_AT = 4, /* where the first begins */
+    CAVERNLULL_REPLY_PAYLOAD_AT = 5,
+    CAVERNLULL_REPLY_PAYLOAD_LENGTH = 6,
+    CAVERNLULL_REPLY_MORE = 7,    /* 1 where a handle was left off the list, else 0 */
+    CAVERNLULL_REPLY_HANDLES = 8, /* how many, of 10 bytes each */
+    CAVERNLULL_REPLY_HANDLES_AT = 9,
+    CAVERNLULL_REPLY_NUMBERS = 10
+};
+
+/* The reply reader of a device: takes a reply frame apart. `key` is 16 bytes, `fields` ten numbers.
+ *
+ * Gives 0, with all of `key` and `fields` written. What the reply lacks is 0. At success it has, beside kind and status:
+ *
+ *   3  Rights Retrieval              key, count, hashes, payload
+ *   4  REK Query                     key
+ *   8  Handle List Query             more, handles
+ *   9  Rights Information Query      count, payload
+ *
+ * Refuses with this number, and then neither `key` nor `fields` is changed:
+ *   203 CAVERNLULL_NO_REPLY  the frame has not 4 bytes plus its body length, another version than 1, a status over 8, a body
+ *                            with a status that is not 0, or a body that is not of its kind's shape with status 0 (for a kind
+ *                            that is not 1 to 9 there is none)
+ */
+uint16_t cavernlull_read_reply(const uint8_t *frame, size_t frame_length, uint8_t *key, uint16_t *fields);
 
 #ifdef __cplusplus
 }

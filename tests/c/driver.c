@@ -1,13 +1,17 @@
 /* Calls the functions of libcavernlull.a as standard input says, and writes what they gave to standard output.
  *
- * A command is one byte and its arguments. A byte string is its length, as a number of 32 bits, and its bytes; numbers
- * have their low byte first.
+ * A command is one byte and its arguments. Numbers have 32 bits, the low byte first. A string is its length, as a number,
+ * and its bytes.
  *
- *   command  arguments      answer
- *   t        table          none: the table that is lent from here on
- *   c        frame, reply   number (32 bits), then as byte strings reply and table, as cavernlull_call left them
+ *   command  arguments                                           answer
+ *   t        string table                                        none: the table that is lent from here on
+ *   c        strings frame, reply                                number, strings reply and table, as cavernlull_call left them
+ *   w        numbers kind, room, count, limit; strings handle,   number, string out, as cavernlull_write_request left it
+ *            new handle, key, hashes, payload, out
+ *   r        strings frame, key, fields (20 bytes)               number, strings key and fields, as cavernlull_read_reply
+ *                                                                left them
  *
- * Every byte string is lent so that it ends where memory ends: one byte read or written behind it is a fault.
+ * Every string is lent so that it ends where memory ends: one byte read or written behind it is a fault.
  * It ends with status 0 at the end of the input, and with 2 where the input is no command or too long.
  *
  * It is freestanding, so that the compiler and the linker are all that building it needs.
@@ -125,31 +129,62 @@ static struct lent take_string(struct area *area) {
     return lent;
 }
 
+/* A string of this length: an array, which is lent without its length. */
+static struct lent take_array(struct area *area, size_t length) {
+    struct lent lent = take_string(area);
+    if (lent.length != length) leave(2);
+    return lent;
+}
+
 static void give_string(struct lent lent) {
     give_number((uint32_t)lent.length);
     give(lent.at, lent.length);
 }
 
 /* ---- the commands */
-static struct area table_area, frame_area, buffer_area;
+static struct area table_area, areas[6];
 static struct lent table = {table_area.wall, 0};
 
 static void call(void) {
-    struct lent frame = take_string(&frame_area);
-    struct lent reply = take_string(&buffer_area);
+    struct lent frame = take_string(&areas[0]);
+    struct lent reply = take_string(&areas[1]);
     give_number(cavernlull_call(table.at, table.length, frame.at, frame.length, reply.at, reply.length));
     give_string(reply);
     give_string(table);
 }
 
+static void write_request(void) {
+    uint8_t kind = (uint8_t)take_number();
+    uint16_t room = (uint16_t)take_number(), count = (uint16_t)take_number(), limit = (uint16_t)take_number();
+    struct lent handle = take_array(&areas[0], CAVERNLULL_HANDLE_BYTES);
+    struct lent new_handle = take_array(&areas[1], CAVERNLULL_HANDLE_BYTES);
+    struct lent key = take_array(&areas[2], CAVERNLULL_KEY_BYTES);
+    struct lent hashes = take_string(&areas[3]);
+    struct lent payload = take_string(&areas[4]);
+    struct lent out = take_string(&areas[5]);
+    give_number(cavernlull_write_request(kind, handle.at, new_handle.at, key.at, room, count, limit, hashes.at,
+                                         hashes.length, payload.at, payload.length, out.at, out.length));
+    give_string(out);
+}
+
+static void read_reply(void) {
+    struct lent frame = take_string(&areas[0]);
+    struct lent key = take_array(&areas[1], CAVERNLULL_KEY_BYTES);
+    struct lent fields = take_array(&areas[2], CAVERNLULL_REPLY_NUMBERS * sizeof(uint16_t));
+    give_number(cavernlull_read_reply(frame.at, frame.length, key.at, (uint16_t *)(void *)fields.at));
+    give_string(key);
+    give_string(fields);
+}
+
 static _Noreturn __attribute__((used)) void run(void) {
     wall_off(&table_area);
-    wall_off(&frame_area);
-    wall_off(&buffer_area);
+    for (size_t i = 0; i < sizeof areas / sizeof areas[0]; i++) wall_off(&areas[i]);
     while (taken < filled || refill()) {
         switch (input[taken++]) {
         case 't': table = take_string(&table_area); break;
         case 'c': call(); break;
+        case 'w': write_request(); break;
+        case 'r': read_reply(); break;
         default: leave(2);
         }
     }

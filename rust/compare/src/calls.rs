@@ -1,26 +1,20 @@
 //! Calls made at random, and calls checked.
 //!
-//! One thread makes the calls: it hands each to the driver, to the reference,
-//! and then what the reference made of it to the other thread, which checks
-//! what the driver answers.
+//! Each call is handed to the driver and to the reference, and what the
+//! reference made of it is held against what the driver answers.
 
-use crate::driver::{Answers, Call, Commands, Driver};
+use crate::driver::{Call, Same};
 use crate::frames::Asker;
 use crate::outcome::{Counts, Outcome};
+use crate::pipeline::{self, Giver};
 use crate::rng::Rng;
 use crate::tables::{blank, damaged, reply_buffer};
 use reference::ledger::{agrees, Ledger};
 use reference::{read_request, ReadRequest, MAX_SLOTS};
-use std::io::{Error, Result};
-use std::panic::resume_unwind;
-use std::sync::mpsc::{sync_channel, Receiver, SyncSender};
-use std::thread;
+use std::io::Result;
 
 /// The calls of one sequence, from a blank table on.
 const SEQUENCE: usize = 160;
-
-/// How many calls may be on their way.
-const ON_THE_WAY: usize = 64;
 
 /// Where a call stands in the history of a table.
 #[derive(Clone, Copy, Debug, PartialEq, Eq)]
@@ -46,109 +40,107 @@ struct Expected {
 /// # Panics
 ///
 /// Where the archive and the reference differ, or a table and its history.
-pub fn compare(rng: Rng, calls: u64) -> Counts {
-    let Driver { commands, answers } = Driver::start();
-    let (sender, receiver) = sync_channel(ON_THE_WAY);
-    let maker = Maker {
-        rng,
-        commands,
-        sender,
-        left: calls,
+pub fn compare(mut rng: Rng, calls: u64) -> Counts {
+    let mut checker = Checker::default();
+    pipeline::run(
+        move |giver| {
+            let mut made = 0;
+            while made < calls {
+                for slots in 1..=MAX_SLOTS {
+                    made += sequence(giver, &mut rng, slots)?;
+                }
+            }
+            Ok(())
+        },
+        |answers, expected| checker.check(&answers.call(), &expected),
+    );
+    checker.counts
+}
+
+/// Makes a sequence of calls from a blank table on, among them some on a copy
+/// of the table which is damaged. Gives how many.
+fn sequence(giver: &mut Giver<Expected>, rng: &mut Rng, slots: usize) -> Result<u64> {
+    let asker = Asker::new(slots);
+    let mut table = blank(slots);
+    let mut made = 0;
+    giver.commands.table(&table)?;
+    for step in 0..SEQUENCE {
+        let history = match step {
+            0 => History::Begins,
+            _ => History::GoesOn,
+        };
+        call(giver, rng, &asker, history, &mut table)?;
+        made += 1;
+        if rng.one_in(10) {
+            let mut other = damaged(rng, &table);
+            giver.commands.table(&other)?;
+            call(giver, rng, &asker, History::Apart, &mut other)?;
+            made += 1;
+            giver.commands.table(&table)?;
+        }
+    }
+    Ok(made)
+}
+
+/// Makes one call on the table lent to the driver and on its equal.
+fn call(
+    giver: &mut Giver<Expected>,
+    rng: &mut Rng,
+    asker: &Asker,
+    history: History,
+    table: &mut [u8],
+) -> Result<()> {
+    let frame = asker.frame(rng);
+    let mut reply = reply_buffer(rng);
+    giver.commands.call(&frame, &reply)?;
+    let number = reference::call(table, &frame, &mut reply);
+    let call = Call {
+        number,
+        reply,
+        table: table.to_vec(),
     };
-    thread::scope(|scope| {
-        let made = scope.spawn(move || maker.make());
-        let counts = check(answers, receiver);
-        made.join()
-            .unwrap_or_else(|panic| resume_unwind(panic))
-            .expect("the driver takes every command");
-        counts
+    giver.expect(Expected {
+        history,
+        frame,
+        call,
     })
 }
 
-/// Makes calls until none is left to make.
-struct Maker {
-    rng: Rng,
-    commands: Commands,
-    sender: SyncSender<Expected>,
-    left: u64,
+/// Checks one call after another.
+#[derive(Default)]
+struct Checker {
+    checked: u64,
+    counts: Counts,
+    ledger: Ledger,
 }
 
-impl Maker {
-    fn make(mut self) -> Result<()> {
-        while self.left > 0 {
-            for slots in 1..=MAX_SLOTS {
-                self.sequence(slots)?;
-            }
+impl Checker {
+    fn check(&mut self, given: &Call, expected: &Expected) {
+        let same = given.same_as(&expected.call).and_then(|()| {
+            let outcome = Outcome::of(given.number, &given.reply);
+            *self.counts.entry(outcome).or_default() += 1;
+            self.follow(expected, outcome, &given.table)
+        });
+        if let Err(difference) = same {
+            panic!(
+                "call {}, {}: {difference}",
+                self.checked,
+                describe(expected)
+            );
         }
-        Ok(())
+        self.checked += 1;
     }
 
-    /// A sequence of calls from a blank table on, among them some on a copy
-    /// of the table which is damaged.
-    fn sequence(&mut self, slots: usize) -> Result<()> {
-        let asker = Asker::new(slots);
-        let mut table = blank(slots);
-        self.commands.table(&table)?;
-        for step in 0..SEQUENCE {
-            let history = match step {
-                0 => History::Begins,
-                _ => History::GoesOn,
-            };
-            self.call(&asker, history, &mut table)?;
-            if self.rng.one_in(10) {
-                let mut other = damaged(&mut self.rng, &table);
-                self.commands.table(&other)?;
-                self.call(&asker, History::Apart, &mut other)?;
-                self.commands.table(&table)?;
-            }
+    /// Holds a table against its history, told by requests and statuses.
+    fn follow(&mut self, call: &Expected, outcome: Outcome, table: &[u8]) -> Same {
+        match call.history {
+            History::Apart => return Ok(()),
+            History::Begins => self.ledger = Ledger::new(),
+            History::GoesOn => {}
         }
-        Ok(())
+        tell(&mut self.ledger, &call.frame, outcome);
+        agrees(&self.ledger, table)
     }
-
-    fn call(&mut self, asker: &Asker, history: History, table: &mut [u8]) -> Result<()> {
-        let frame = asker.frame(&mut self.rng);
-        let mut reply = reply_buffer(&mut self.rng);
-        self.commands.call(&frame, &reply)?;
-        self.commands.send()?;
-        let number = reference::call(table, &frame, &mut reply);
-        let call = Call {
-            number,
-            reply,
-            table: table.to_vec(),
-        };
-        self.left = self.left.saturating_sub(1);
-        let expected = Expected {
-            history,
-            frame,
-            call,
-        };
-        self.sender.send(expected).map_err(Error::other)
-    }
-}
-
-/// Checks what the driver answers until no more is expected.
-fn check(mut answers: Answers, expected: Receiver<Expected>) -> Counts {
-    let mut counts = Counts::new();
-    let mut ledger = Ledger::new();
-    for (index, expected) in expected.iter().enumerate() {
-        let given = answers.call();
-        if let Err(difference) = given.same_as(&expected.call) {
-            panic!("call {index}, {}: {difference}", describe(&expected));
-        }
-        let outcome = Outcome::of(given.number, &given.reply);
-        *counts.entry(outcome).or_default() += 1;
-        if expected.history == History::Begins {
-            ledger = Ledger::new();
-        }
-        if expected.history != History::Apart {
-            tell(&mut ledger, &expected.frame, outcome);
-            if let Err(difference) = agrees(&ledger, &given.table) {
-                panic!("call {index}, {}: {difference}", describe(&expected));
-            }
-        }
-    }
-    answers.end();
-    counts
 }
 
 /// Tells the ledger the request, if the frame is one and had a reply.

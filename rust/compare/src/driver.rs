@@ -2,10 +2,11 @@
 //! input, and says on its standard output what came of it.
 //!
 //! Commands go in and answers come out in the same order, so many commands
-//! may be on their way at once. Both ends have to be served at the same time,
-//! each from a thread of its own: a pipe that is full stops the driver.
+//! may be on their way at once. Both ends have then to be served at the same
+//! time, since a pipe that is full stops the driver ([`crate::pipeline`]).
 
-use std::io::{BufReader, BufWriter, Read, Result, Write};
+use reference::{Fields, Key, KEY_BYTES};
+use std::io::{BufReader, BufWriter, Read as _, Result, Write as _};
 use std::path::Path;
 use std::process::{Child, ChildStdin, ChildStdout, Command, Stdio};
 
@@ -76,6 +77,36 @@ impl Commands {
         self.string(reply)
     }
 
+    /// Has `cavernlull_write_request` called; the answer is a [`Written`].
+    ///
+    /// # Errors
+    ///
+    /// Where the driver has ended.
+    pub fn write_request(&mut self, kind: u8, fields: &Fields<'_>, out: &[u8]) -> Result<()> {
+        self.0.write_all(b"w")?;
+        for number in [kind.into(), fields.length, fields.count, fields.limit] {
+            self.number(number.into())?;
+        }
+        self.string(&fields.handle)?;
+        self.string(&fields.new_handle)?;
+        self.string(&fields.key)?;
+        self.string(fields.hashes)?;
+        self.string(fields.payload)?;
+        self.string(out)
+    }
+
+    /// Has `cavernlull_read_reply` called; the answer is a [`Read`].
+    ///
+    /// # Errors
+    ///
+    /// Where the driver has ended.
+    pub fn read_reply(&mut self, frame: &[u8], key: &Key, numbers: &Numbers) -> Result<()> {
+        self.0.write_all(b"r")?;
+        self.string(frame)?;
+        self.string(key)?;
+        self.string(numbers.map(u16::to_le_bytes).as_flattened())
+    }
+
     /// Sends what has not been sent yet.
     ///
     /// # Errors
@@ -85,9 +116,12 @@ impl Commands {
         self.0.flush()
     }
 
+    fn number(&mut self, number: u32) -> Result<()> {
+        self.0.write_all(&number.to_le_bytes())
+    }
+
     fn string(&mut self, bytes: &[u8]) -> Result<()> {
-        let length = u32::try_from(bytes.len()).expect("no string is so long");
-        self.0.write_all(&length.to_le_bytes())?;
+        self.number(u32::try_from(bytes.len()).expect("no string is so long"))?;
         self.0.write_all(bytes)
     }
 }
@@ -109,7 +143,7 @@ impl Call {
     /// # Errors
     ///
     /// A sentence that names the first thing that differs.
-    pub fn same_as(&self, expected: &Call) -> std::result::Result<(), String> {
+    pub fn same_as(&self, expected: &Call) -> Same {
         if self.number != expected.number {
             let (given, wanted) = (self.number, expected.number);
             return Err(format!("it gave {given} where {wanted} was expected"));
@@ -119,12 +153,34 @@ impl Call {
     }
 }
 
+/// What a call of `cavernlull_write_request` gave, and what it left.
+#[derive(Debug, PartialEq, Eq)]
+pub struct Written {
+    /// The number.
+    pub number: u16,
+    /// The whole buffer.
+    pub out: Vec<u8>,
+}
+
+/// The ten numbers of a reply.
+pub type Numbers = [u16; 10];
+
+/// What a call of `cavernlull_read_reply` gave, and what it left.
+#[derive(Debug, PartialEq, Eq)]
+pub struct Read {
+    /// The number.
+    pub number: u16,
+    /// The key.
+    pub key: Key,
+    /// The ten numbers.
+    pub numbers: Numbers,
+}
+
+/// Nothing, or a sentence that names the first thing that differs.
+pub type Same = std::result::Result<(), String>;
+
 /// Whether lent memory is as expected, and if not, where.
-///
-/// # Errors
-///
-/// A sentence that names the first byte that differs.
-pub fn same_bytes(what: &str, given: &[u8], expected: &[u8]) -> std::result::Result<(), String> {
+fn same_bytes(what: &str, given: &[u8], expected: &[u8]) -> Same {
     if given == expected {
         return Ok(());
     }
@@ -155,6 +211,38 @@ impl Answers {
             number: self.number(),
             reply: self.string(),
             table: self.string(),
+        }
+    }
+
+    /// The next answer to a request written.
+    ///
+    /// # Panics
+    ///
+    /// Where the driver ends before it has answered.
+    pub fn written(&mut self) -> Written {
+        Written {
+            number: self.number(),
+            out: self.string(),
+        }
+    }
+
+    /// The next answer to a reply read.
+    ///
+    /// # Panics
+    ///
+    /// Where the driver ends before it has answered.
+    pub fn read(&mut self) -> Read {
+        let number = self.number();
+        let key = self.string();
+        let numbers = self.string();
+        let pairs = numbers.as_chunks::<2>().0;
+        Read {
+            number,
+            key: *key.first_chunk::<KEY_BYTES>().expect("a key"),
+            numbers: pairs
+                .first_chunk::<10>()
+                .expect("ten")
+                .map(u16::from_le_bytes),
         }
     }
 

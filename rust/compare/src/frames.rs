@@ -30,12 +30,13 @@ impl Asker {
         }
     }
 
-    fn handle(&self, rng: &mut Rng) -> Handle {
+    /// One of the handles.
+    pub fn handle(&self, rng: &mut Rng) -> Handle {
         rng.pick(&self.handles)
     }
 
     /// Up to 8 hashes, one after another; the same may come twice.
-    fn hashes(&self, rng: &mut Rng) -> Vec<u8> {
+    pub fn hashes(&self, rng: &mut Rng) -> Vec<u8> {
         let count = rng.pick(&[0, 0, 0, 1, 1, 1, 2, 3, 7, 8]);
         (0..count).flat_map(|_| rng.pick(&self.hashes)).collect()
     }
@@ -101,7 +102,7 @@ impl Asker {
     }
 
     /// Changes a frame in a way that some test should notice.
-    fn spoil(&self, rng: &mut Rng, frame: &mut Vec<u8>) {
+    pub fn spoil(&self, rng: &mut Rng, frame: &mut Vec<u8>) {
         if frame.len() < 4 {
             return frame.push(rng.byte());
         }
@@ -215,7 +216,7 @@ fn near<const N: usize>(index: usize) -> [u8; N] {
 }
 
 /// The room that a setup asks for.
-fn room(rng: &mut Rng) -> u16 {
+pub fn room(rng: &mut Rng) -> u16 {
     match rng.below(20) {
         0 => rng.pick(&[0, 0, 4097, 0x8001, 0xFFFF]),
         1..10 => 4096,
@@ -223,7 +224,8 @@ fn room(rng: &mut Rng) -> u16 {
     }
 }
 
-fn payload_length(rng: &mut Rng) -> usize {
+/// The length of a payload that may be installed.
+pub fn payload_length(rng: &mut Rng) -> usize {
     match rng.below(10) {
         0 => 1,
         1 => rng.pick(&[4095, 4096, 4096]),
@@ -231,7 +233,8 @@ fn payload_length(rng: &mut Rng) -> usize {
     }
 }
 
-fn count(rng: &mut Rng) -> u16 {
+/// The count of a right.
+pub fn count(rng: &mut Rng) -> u16 {
     match rng.below(4) {
         0 => 0,
         _ => rng.word(),

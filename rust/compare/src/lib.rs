@@ -13,7 +13,9 @@
 //! | [`rng`] | random numbers, from a seed that is printed |
 //! | [`frames`] | request frames at random, right and wrong ones |
 //! | [`tables`] | damaged tables, and reply buffers |
+//! | [`pipeline`] | many commands on their way at once |
 //! | [`calls`] | many calls, made at random and checked |
+//! | [`device`] | requests written and replies read, at random |
 //! | [`both`] | one call after another, on a table chosen by a test |
 //! | [`outcome`] | which outcomes there were, and which there must be |
 //!
@@ -25,8 +27,10 @@
 
 pub mod both;
 pub mod calls;
+pub mod device;
 pub mod driver;
 pub mod frames;
 pub mod outcome;
+pub mod pipeline;
 pub mod rng;
 pub mod tables;

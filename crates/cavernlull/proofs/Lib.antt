@@ -1,0 +1,2 @@
+pub mod SmallNumbers
+pub mod ReadInto

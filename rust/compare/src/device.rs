@@ -1,0 +1,273 @@
+//! Requests written and replies read, at random.
+
+use crate::driver::{Numbers, Read, Written};
+use crate::frames::{count, frame, payload_length, room, Asker};
+use crate::pipeline;
+use crate::rng::Rng;
+use reference::{read_reply, write_request, Fields, Handle, Key, Reply, Status};
+use reference::{HANDLE_BYTES, HASH_BYTES};
+use std::collections::BTreeMap;
+
+/// How often there was which number, with which kind asked for.
+pub type WriterCounts = BTreeMap<(u16, u8), u64>;
+
+/// How often there was which number, with which kind and status; 203 has
+/// neither.
+pub type ReaderCounts = BTreeMap<(u16, u8, u8), u64>;
+
+/// The fields of a request, with hashes and payload of its own.
+#[derive(Clone, Debug, Default)]
+struct OwnFields {
+    handle: Handle,
+    new_handle: Handle,
+    key: Key,
+    length: u16,
+    count: u16,
+    limit: u16,
+    hashes: Vec<u8>,
+    payload: Vec<u8>,
+}
+
+impl OwnFields {
+    fn lent(&self) -> Fields<'_> {
+        Fields {
+            handle: self.handle,
+            new_handle: self.new_handle,
+            key: self.key,
+            length: self.length,
+            count: self.count,
+            limit: self.limit,
+            hashes: &self.hashes,
+            payload: &self.payload,
+        }
+    }
+
+    /// Fields that the writer takes for this kind, and for other kinds any.
+    fn of_kind(rng: &mut Rng, asker: &Asker, kind: u8) -> OwnFields {
+        let mut fields = OwnFields::default();
+        let names: &[u8] = match kind {
+            1 => b"hl",
+            2 => b"hkcap",
+            3 | 4 => b"hn",
+            5 => b"hc",
+            6 | 7 | 9 => b"h",
+            8 => b"ia",
+            _ => b"",
+        };
+        for &name in names {
+            fields.set(rng, asker, name);
+        }
+        fields
+    }
+
+    /// Gives one field a value, which may be zero or empty.
+    fn set(&mut self, rng: &mut Rng, asker: &Asker, name: u8) {
+        match name {
+            b'h' => self.handle = asker.handle(rng),
+            b'n' => self.new_handle = asker.handle(rng),
+            b'k' => self.key = [0; 16].map(|_: u8| rng.byte()),
+            b'l' => self.length = room(rng),
+            b'c' => self.count = count(rng),
+            b'i' => self.limit = count(rng),
+            b'a' => self.hashes = asker.hashes(rng),
+            _ => {
+                let length = payload_length(rng);
+                self.payload = rng.bytes(length);
+            }
+        }
+    }
+
+    /// Changes a field in a way that the writer may refuse.
+    fn spoil(&mut self, rng: &mut Rng, asker: &Asker) {
+        match rng.below(6) {
+            0 => {
+                let length = rng.pick(&[0, 1, 4096, 4097]);
+                self.payload = rng.bytes(length);
+            }
+            1 => {
+                let length = rng.pick(&[1, 19, 21, 159, 160, 161, 180, 320]);
+                self.hashes = rng.bytes(length);
+            }
+            2 => self.key[rng.below(16)] = rng.bit(8),
+            3 => self.new_handle[rng.below(HANDLE_BYTES)] = rng.bit(8),
+            _ => {
+                let name = rng.pick(b"hnklciap");
+                self.set(rng, asker, name);
+            }
+        }
+    }
+}
+
+/// Has so many requests written, and checks each.
+///
+/// # Panics
+///
+/// Where the archive and the reference differ.
+pub fn compare_writers(mut rng: Rng, calls: u64) -> WriterCounts {
+    let mut counts = WriterCounts::new();
+    pipeline::run(
+        move |giver| {
+            let asker = Asker::new(4);
+            for _ in 0..calls {
+                let kind = rng.pick(&[0, 1, 2, 2, 2, 3, 4, 5, 6, 7, 8, 8, 9, 10, 31, 33, 255]);
+                let mut fields = OwnFields::of_kind(&mut rng, &asker, kind);
+                if rng.one_in(3) {
+                    fields.spoil(&mut rng, &asker);
+                }
+                let mut out = out_buffer(&mut rng, kind, &fields.lent());
+                giver.commands.write_request(kind, &fields.lent(), &out)?;
+                let number = write_request(kind, &fields.lent(), &mut out);
+                giver.expect((kind, fields, Written { number, out }))?;
+            }
+            Ok(())
+        },
+        |answers, (kind, fields, expected)| {
+            let given = answers.written();
+            assert!(
+                given == expected,
+                "kind {kind} and {fields:02x?} gave {}, where {} was expected",
+                given.number,
+                expected.number
+            );
+            *counts.entry((given.number, kind)).or_default() += 1;
+        },
+    );
+    counts
+}
+
+/// A buffer about as long as the frame.
+fn out_buffer(rng: &mut Rng, kind: u8, fields: &Fields<'_>) -> Vec<u8> {
+    let mut long = [0; 4300];
+    let length = match write_request(kind, fields, &mut long) {
+        0 => 4 + usize::from(u16::from_be_bytes([long[2], long[3]])),
+        _ => 40,
+    };
+    let room = match rng.below(6) {
+        0 => rng.below(length),
+        1 => length - 1,
+        2 => length + rng.below(50),
+        _ => length,
+    };
+    rng.bytes(room)
+}
+
+/// Has so many replies read, and checks each.
+///
+/// # Panics
+///
+/// Where the archive and the reference differ.
+pub fn compare_readers(mut rng: Rng, calls: u64) -> ReaderCounts {
+    let mut counts = ReaderCounts::new();
+    pipeline::run(
+        move |giver| {
+            let asker = Asker::new(4);
+            for _ in 0..calls {
+                let frame = asker.reply(&mut rng);
+                let key = [0; 16].map(|_: u8| rng.byte());
+                let numbers = [0; 10].map(|_: u16| rng.word());
+                giver.commands.read_reply(&frame, &key, &numbers)?;
+                let expected = expected(&frame, key, numbers);
+                giver.expect((frame, expected))?;
+            }
+            Ok(())
+        },
+        |answers, (frame, expected)| {
+            let given = answers.read();
+            assert_eq!(given, expected, "{frame:02x?}");
+            let [kind, status] = match given.number {
+                0 => [given.numbers[0] as u8, given.numbers[1] as u8],
+                _ => [0, 0],
+            };
+            *counts.entry((given.number, kind, status)).or_default() += 1;
+        },
+    );
+    counts
+}
+
+/// What the reference makes of a reply, as the archive has it.
+fn expected(frame: &[u8], key: Key, numbers: Numbers) -> Read {
+    match read_reply(frame) {
+        Err(number) => Read {
+            number,
+            key,
+            numbers,
+        },
+        Ok(reply) => Read {
+            number: 0,
+            key: reply.fields.key,
+            numbers: numbers_of(&reply, frame),
+        },
+    }
+}
+
+/// The numbers of a reply: kind, status, count, hashes and where they are,
+/// where the payload is and its length, more, handles and where they are.
+fn numbers_of(reply: &Reply<'_>, frame: &[u8]) -> Numbers {
+    let fields = &reply.fields;
+    let (hashes_at, payload_at, handles_at) = match (reply.status, reply.kind) {
+        (Status::Success, 3) => (23, 23 + fields.hashes.len(), 0),
+        (Status::Success, 8) => (0, 0, 5),
+        (Status::Success, 9) => (0, 6, 0),
+        _ => (0, 0, 0),
+    };
+    assert!(frame[hashes_at..].starts_with(fields.hashes));
+    assert!(frame[payload_at..].starts_with(fields.payload));
+    assert!(frame[handles_at..].starts_with(fields.handles));
+    [
+        reply.kind.into(),
+        reply.status.number().into(),
+        fields.count.into(),
+        fields.hashes.len() / HASH_BYTES,
+        hashes_at,
+        payload_at,
+        fields.payload.len(),
+        fields.more.into(),
+        fields.handles.len() / HANDLE_BYTES,
+        handles_at,
+    ]
+    .map(|number| u16::try_from(number).expect("no number is so large"))
+}
+
+impl Asker {
+    /// A reply frame; one in three is spoiled.
+    fn reply(&self, rng: &mut Rng) -> Vec<u8> {
+        let mut reply = match rng.below(4) {
+            0 => frame(rng.below(32) as u8, rng.below(10) as u8, &[]),
+            _ => {
+                let kind = 1 + rng.below(9) as u8;
+                frame(kind, 0, &self.given(rng, kind))
+            }
+        };
+        if rng.one_in(3) {
+            self.spoil(rng, &mut reply);
+        }
+        reply
+    }
+
+    /// The body of a success, some a little too long or too short.
+    fn given(&self, rng: &mut Rng, kind: u8) -> Vec<u8> {
+        let length = match rng.below(8) {
+            0 => rng.pick(&[0, 4096, 4097]),
+            _ => payload_length(rng),
+        };
+        let payload = rng.bytes(length);
+        let key = rng.bytes(16);
+        let count = count(rng).to_be_bytes();
+        match kind {
+            3 => {
+                let hashes = self.hashes(rng);
+                let head = [(hashes.len() / HASH_BYTES) as u8 * 16];
+                [&key, &count[..], &head, &hashes, &payload].concat()
+            }
+            4 => key,
+            8 => {
+                let handles = rng.below(17);
+                let more = rng.pick(&[0x00, 0x80]);
+                let length = handles * HANDLE_BYTES;
+                [&[more][..], &rng.bytes(length)].concat()
+            }
+            9 => [&count[..], &payload].concat(),
+            _ => Vec::new(),
+        }
+    }
+}
