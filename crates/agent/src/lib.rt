@@ -110,10 +110,10 @@ pub fn call(table: &mut [u8], frame: &[u8], reply: &mut [u8]) -> u16
     if reply.len() < 4279 {
         return 101;
     }
-    if !slots::part::whole_slots(table) {
+    if !tables::part::whole_slots(table) {
         return 102;
     }
-    if !slots::table::well_table(table) {
+    if !tables::table::well_table(table) {
         return 103;
     }
     answer(table, frame, reply)

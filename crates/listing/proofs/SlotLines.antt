@@ -16,8 +16,9 @@ use Rattle.profile.proofs.WellFormed.{few-slots}
 use Rattle.slots.specs.declared.head.Head.{Head}
 use Rattle.slots.specs.Heads.{HeadOf}
 use Rattle.slots.specs.Places.{placeNumber}
-use Rattle.slots.proofs.SlotParts.{length-bytes, length-slots, getD-slots}
-use Rattle.slots.proofs.WellSlots.{few-hashes, length-most-4096, slot-well}
+use Rattle.tables.proofs.SlotParts.{length-bytes, length-slots, getD-slots}
+use Rattle.slots.proofs.WellSlots.{few-hashes, length-most-4096}
+use Rattle.tables.proofs.WellTables.{slot-well}
 use Rattle.listing.specs.Written.{Wrote, Listable, number, field, placed, labelOf, sizesOf, lineOf, linesOf}
 use Rattle.listing.proofs.Digits.{number-few}
 use Rattle.listing.proofs.Writing.{wrote-none, wrote-length, wrote-then, field-most, field-few, placed-few}

@@ -12,10 +12,10 @@ mod lines; // lines.rt: the line of a slot, and those of all slots
 pub fn list(table: &[u8], out: &mut [u8; 406]) -> usize
     ensures { λ r. ⌜ (r ≡ length (listing (now (table .entry)))) × (now (out .exit) ≡ over (listing (now (table .entry))) (now (out .entry))) ⌝ }
 {
-    if !slots::part::whole_slots(table) {
+    if !tables::part::whole_slots(table) {
         return put::put_refusal(out, 102);
     }
-    if !slots::table::well_table(table) {
+    if !tables::table::well_table(table) {
         return put::put_refusal(out, 103);
     }
     let at = put::put_word(out, 0, b"slot place hashes count length\n");

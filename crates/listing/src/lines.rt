@@ -53,7 +53,7 @@ pub(crate) fn put_lines(out: &mut [u8], at: usize, table: &[u8]) -> usize
     let mut next = at;
     let mut i = 0;
     while i < n {
-        next = put_line(out, next, i, slots::part::slot_at(table, i));
+        next = put_line(out, next, i, tables::part::slot_at(table, i));
         i += 1;
     }
     next

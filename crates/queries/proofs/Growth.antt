@@ -17,8 +17,9 @@ use Rattle.profile.proofs.WellFormed.{few-slots}
 use Rattle.octets.specs.Over.{overAt}
 use Rattle.replies.specs.Listed.{holding}
 use Rattle.replies.proofs.Growing.{hold-none, hold-more}
-use Rattle.slots.proofs.SlotParts.{length-slots}
-use Rattle.slots.proofs.WellSlots.{few-hashes, slot-well}
+use Rattle.tables.proofs.SlotParts.{length-slots}
+use Rattle.slots.proofs.WellSlots.{few-hashes}
+use Rattle.tables.proofs.WellTables.{slot-well}
 use Rattle.queries.specs.Query.{Ready}
 use Rattle.queries.proofs.ListedSlots.{listed-next, listed-whole, each-passed}
 

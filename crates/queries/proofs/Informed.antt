@@ -11,9 +11,9 @@ use Rattle.replies.specs.Written.{infoOf}
 use Rattle.replies.proofs.Frames.{deny-frame, done-frame}
 use Rattle.slots.specs.declared.place.Place.{Place}
 use Rattle.slots.specs.declared.place.Place.the-variants.{Empty, Reserved, Enabled, Disabled}
-use Rattle.slots.specs.declared.lookup.Lookup.the-variants.{Absent, Two, At}
-use Rattle.slots.specs.LookUp.{lookUp}
-use Rattle.slots.proofs.Records.{entryOf, absent-denied, two-denied, record-at, record-fits}
+use Rattle.tables.specs.declared.lookup.Lookup.the-variants.{Absent, Two, At}
+use Rattle.tables.specs.LookUp.{lookUp}
+use Rattle.tables.proofs.Records.{entryOf, absent-denied, two-denied, record-at, record-fits}
 use Rattle.queries.specs.Query.{Ready, replyTo}
 
 module _ (t b h : Bytes) where

@@ -13,7 +13,7 @@ use Rattle.profile.specs.Table.{unpack, slotCount, slotsOf, wholeSlots, wellTab
 use Rattle.profile.specs.Agent.{asked, listedSlot, listed}
 use Rattle.profile.proofs.Logic.{if-both}
 use Rattle.profile.proofs.WellFormed.{table-fits, few-slots}
-use Rattle.slots.proofs.SlotParts.{length-slots, unpacked-at}
+use Rattle.tables.proofs.SlotParts.{length-slots, unpacked-at}
 
 -- ---- handles of k bytes
 module _ (k : ℕ) where

@@ -1,6 +1,6 @@
 // The two kinds that only read the table: 8, the Handle List Query, and 9, the Rights Information Query.
-use slots::lookup::Lookup;
 use slots::place::Place;
+use tables::lookup::Lookup;
 ghost use mathlib.Core.Path.{_≡_};
 ghost use Prim.Native.Nat.{_+_, _*_, _≤_};
 ghost use lib.ListN.{length, drop};
@@ -44,14 +44,14 @@ pub fn info(table: &[u8], reply: &mut [u8], h: [u8; 10])
     requires { ⌜ Ready (now table) (now reply) ⌝ }
     ensures { λ _. ⌜ now (reply .exit) ≡ replyTo 9 (info h) (now (table .entry)) (now (reply .entry)) ⌝ }
 {
-    match slots::lookup::look_up(table, h) {
+    match tables::lookup::look_up(table, h) {
         Lookup::Absent => replies::writer::reply_status(reply, 9, NOT_FOUND),
         Lookup::Two => replies::writer::reply_status(reply, 9, TWO_RECORDS),
         Lookup::At(i, place) => {
             let Place::Enabled = place else {
                 return replies::writer::reply_status(reply, 9, UNEXPECTED);
             };
-            replies::writer::reply_info(reply, slots::part::slot_at(table, i));
+            replies::writer::reply_info(reply, tables::part::slot_at(table, i));
         }
     }
 }

@@ -13,13 +13,13 @@ use Rattle.profile.specs.Agent.{Answer, deny, onRecord}
 use Rattle.profile.proofs.Strings.{Bytes256, bytes-take, bytes-drop}
 use Rattle.slots.specs.declared.place.Place.{Place}
 use Rattle.slots.specs.declared.place.Place.the-variants.{Empty, Reserved, Enabled, Disabled}
-use Rattle.slots.specs.declared.lookup.Lookup.{Lookup}
-use Rattle.slots.specs.declared.lookup.Lookup.the-variants.{Absent, Two, At}
-use Rattle.slots.specs.Places.{placeNumber}
-use Rattle.slots.specs.LookUp.{placeOfEntry, lookUp}
-use Rattle.slots.proofs.SlotParts.{getD-slots}
+use Rattle.tables.specs.declared.lookup.Lookup.{Lookup}
+use Rattle.tables.specs.declared.lookup.Lookup.the-variants.{Absent, Two, At}
+use Rattle.slots.specs.Places.{placeNumber, placeOfEntry}
+use Rattle.tables.specs.LookUp.{lookUp}
+use Rattle.tables.proofs.SlotParts.{getD-slots}
 use Rattle.slots.proofs.Unpacking.{empty-taken, same-handle, unpack-empty, unpack-taken}
-use Rattle.slots.proofs.Records.{Standing, RecordAt, RecordFits, entryOf, absent-denied, two-denied, at-stands, record-at, record-fits, none-empty}
+use Rattle.tables.proofs.Records.{Standing, RecordAt, RecordFits, entryOf, absent-denied, two-denied, at-stands, record-at, record-fits, none-empty}
 use Rattle.changes.specs.Change.{slotAt, Has}
 use Rattle.changes.proofs.Standing.{taken-place}
 use Rattle.rights.specs.declared.decision.Takes.{Takes}

@@ -22,9 +22,9 @@ use Rattle.profile.proofs.Lookup.{lowestEmpty-free}
 use Rattle.slots.specs.declared.place.Place.{Place}
 use Rattle.slots.specs.declared.place.Place.the-variants.{Empty, Reserved, Enabled, Disabled}
 use Rattle.slots.proofs.place.Place.{the-type}
-use Rattle.slots.specs.declared.lookup.Lookup.the-variants.{At}
-use Rattle.slots.specs.LookUp.{lookUp}
-use Rattle.slots.proofs.SlotParts.{length-slots}
+use Rattle.tables.specs.declared.lookup.Lookup.the-variants.{At}
+use Rattle.tables.specs.LookUp.{lookUp}
+use Rattle.tables.proofs.SlotParts.{length-slots}
 use Rattle.changes.specs.Change.{slotAt, Has}
 use Rattle.changes.proofs.Standing.{free-place}
 use Rattle.rights.specs.declared.decision.Decision.{Decision}

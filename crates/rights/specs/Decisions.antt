@@ -3,8 +3,8 @@ use mathlib.Core.Bool.{Bool, true, false}
 use Rattle.profile.specs.Bytes.{if_then_else_}
 use Rattle.slots.specs.declared.place.Place.{Place}
 use Rattle.slots.specs.declared.place.Place.the-variants.{Empty, Reserved, Enabled, Disabled}
-use Rattle.slots.specs.declared.lookup.Lookup.{Lookup}
-use Rattle.slots.specs.declared.lookup.Lookup.the-variants.{Absent, Two, At}
+use Rattle.tables.specs.declared.lookup.Lookup.{Lookup}
+use Rattle.tables.specs.declared.lookup.Lookup.the-variants.{Absent, Two, At}
 use Rattle.rights.specs.declared.decision.Takes.{Takes}
 use Rattle.rights.specs.declared.decision.Decision.{Decision}
 use Rattle.rights.specs.declared.decision.Decision.the-variants.{Refuse, Change}

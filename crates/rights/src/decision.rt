@@ -1,9 +1,9 @@
 // The record under a request's handle, and whether the request takes a record of its place. Nothing here writes.
-use slots::lookup::Lookup;
 use slots::place::Place;
+use tables::lookup::Lookup;
 ghost use mathlib.Core.Path.{_≡_};
 ghost use Rattle.profile.specs.Table.{slotsOf};
-ghost use Rattle.slots.specs.LookUp.{lookUp};
+ghost use Rattle.tables.specs.LookUp.{lookUp};
 ghost use Rattle.rights.specs.Decisions.{takesPlace, decided};
 
 // Refused with a status; or the slot to change, and the place of its record.
@@ -56,7 +56,7 @@ pub fn takes_place(takes: Takes, place: Place) -> bool
 pub fn slot_under(table: &[u8], h: [u8; 10], takes: Takes) -> Decision
     ensures { λ r. ⌜ r ≡ decided takes (lookUp h (slotsOf (now (table .entry)))) ⌝ }
 {
-    match slots::lookup::look_up(table, h) {
+    match tables::lookup::look_up(table, h) {
         Lookup::Absent => Decision::Refuse(4),
         Lookup::Two => Decision::Refuse(8),
         Lookup::At(i, place) => if takes_place(takes, place) {

@@ -24,7 +24,7 @@ pub fn install(
     match crate::decision::slot_under(table, h, AWAITED) {
         Decision::Refuse(status) => replies::writer::reply_status(reply, 2, status),
         Decision::Change(i, _) => {
-            let room = bits::words::word_at(slots::part::slot_at(table, i), 29) as usize;
+            let room = bits::words::word_at(tables::part::slot_at(table, i), 29) as usize;
             if room < size {
                 replies::writer::reply_status(reply, 2, 7);
                 return;

@@ -4,7 +4,7 @@ use crate::decision::LENDABLE;
 ghost use mathlib.Core.Path.{_≡_};
 ghost use Rattle.profile.specs.Slot.{inUse};
 ghost use Rattle.profile.specs.Table.{slotsOf};
-ghost use Rattle.slots.specs.LookUp.{lookUp};
+ghost use Rattle.tables.specs.LookUp.{lookUp};
 ghost use Rattle.rights.specs.Decisions.{decided, unlessUsed, lendable};
 
 // "absent, 4; not enabled, 6; new handle in any non-empty slot, its own included, 5."
@@ -15,7 +15,7 @@ pub fn slot_to_lend(table: &[u8], h: [u8; 10], k: [u8; 10]) -> Decision
     let Decision::Change(_, _) = decision else {
         return decision;
     };
-    if slots::handle::in_use(table, k) {
+    if tables::handle::in_use(table, k) {
         return Decision::Refuse(5);
     }
     decision

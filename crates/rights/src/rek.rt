@@ -11,7 +11,7 @@ pub fn rek_query(table: &mut [u8], reply: &mut [u8], h: [u8; 10], k: [u8; 10])
     match crate::lending::slot_to_lend(table, h, k) {
         Decision::Refuse(status) => replies::writer::reply_status(reply, 4, status),
         Decision::Change(i, _) => {
-            replies::writer::reply_key(reply, slots::part::slot_at(table, i));
+            replies::writer::reply_key(reply, tables::part::slot_at(table, i));
             changes::relabel(table, i, k)
         }
     }

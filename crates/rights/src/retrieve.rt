@@ -12,7 +12,7 @@ pub fn retrieve(table: &mut [u8], reply: &mut [u8], h: [u8; 10], k: [u8; 10])
     match crate::lending::slot_to_lend(table, h, k) {
         Decision::Refuse(status) => replies::writer::reply_status(reply, 3, status),
         Decision::Change(i, _) => {
-            replies::writer::reply_right(reply, slots::part::slot_at(table, i));
+            replies::writer::reply_right(reply, tables::part::slot_at(table, i));
             changes::relabel(table, i, k)
         }
     }

@@ -12,11 +12,11 @@ pub fn set_up(table: &mut [u8], reply: &mut [u8], h: [u8; 10], n: u16)
         replies::writer::reply_status(reply, 1, 2);
         return;
     }
-    if slots::handle::in_use(table, h) {
+    if tables::handle::in_use(table, h) {
         replies::writer::reply_status(reply, 1, 5);
         return;
     }
-    let i = slots::room::lowest_empty(table);
+    let i = tables::room::lowest_empty(table);
     if (4096 < n) | (table.len() / 4288 <= i) {
         replies::writer::reply_status(reply, 1, 7);
         return;

@@ -1,11 +1,8 @@
+-- one turn of a loop
+pub mod Turns
+pub mod Pieces
 -- one slot
 pub mod Unpacking
 pub mod WellSlots
--- the table, slot by slot
-pub mod SlotParts
-pub mod Turns
--- looking up
-pub mod LookingUp
-pub mod Records
 -- hashes
 pub mod Querying

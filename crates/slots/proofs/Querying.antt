@@ -10,7 +10,7 @@ use Rattle.profile.specs.Table.{placeOf, hashCountOf, rightOf, unpack}
 use Rattle.profile.specs.Agent.{listedSlot}
 use Rattle.profile.proofs.Strings.{length-pieces}
 use Rattle.octets.proofs.Parts.{part-drop}
-use Rattle.slots.proofs.SlotParts.{pieces-step}
+use Rattle.slots.proofs.Pieces.{pieces-step}
 use Rattle.slots.proofs.Unpacking.{unpack-empty, unpack-reserved, unpack-enabled, unpack-disabled}
 
 -- ---- the hashes of a slot, one after another

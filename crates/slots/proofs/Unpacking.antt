@@ -9,8 +9,7 @@ use Rattle.profile.specs.Slot.{Entry, reserved, enabled, disabled, empty, taken
 use Rattle.profile.specs.Table.{placeOf, rightOf, unpack}
 use Rattle.slots.specs.declared.place.Place.{Place}
 use Rattle.slots.specs.declared.place.Place.the-variants.{Empty, Reserved, Enabled, Disabled}
-use Rattle.slots.specs.Places.{placeNumber}
-use Rattle.slots.specs.LookUp.{placeOfEntry}
+use Rattle.slots.specs.Places.{placeNumber, placeOfEntry}
 
 -- a taken slot is not empty, and has one handle and one entry
 pub empty-taken : (h : Bytes) (e : Entry) → empty ≡ taken h e → ⊥

@@ -1,22 +1,19 @@
 -- When a slot is well formed, test by test. Assumes nothing.
 use Prim.Native.Nat.{ℕ, zero, suc, _+_, _-_, _*_, _≤_, _<_}
 use mathlib.Core.Path.{_≡_, refl, sym, ap, _∙_}
-use mathlib.Core.List.{List, [], _∷_}
+use mathlib.Core.List.{[], _∷_}
 use mathlib.Core.Bool.{Bool, true, false, _&&_, and-false, and-true, and-assoc}
-use native.Mathlib.Nat.{not-suc-le-zero, le-of-suc-le-suc}
 use native.Mathlib.Omega.{arith}
 use borrow.Author.Tests.{lt-leb, le-leb}
 use lib.Dec.{eqb, leb, ltb}
 use lib.ListN.{length, getD, take, drop, length-drop}
 use lib.Seq.{take-all}
-use Rattle.profile.specs.Bytes.{Bytes, byte, part, word, allZero, all}
-use Rattle.profile.specs.Slot.{distinct}
-use Rattle.profile.specs.Table.{placeOf, hashCountOf, spareOf, wellPlaced, wellSlot, wellTable, slotCount, slotBytes, slotsOf}
+use Rattle.profile.specs.Bytes.{Bytes, byte, part, word, allZero}
+use Rattle.profile.specs.Table.{placeOf, hashCountOf, spareOf, wellPlaced, wellSlot}
 use Rattle.profile.proofs.Logic.{both, and-parts, eqb-eq, from-1-to-says}
 use Rattle.profile.proofs.Strings.{zero-drop}
 use Rattle.profile.proofs.Unpack.{well-slot, well-reserved}
 use Rattle.slots.specs.Taken.{wellTaken}
-use Rattle.slots.proofs.SlotParts.{length-bytes, getD-slots}
 
 -- ---- zero bytes
 -- each of some zero bytes is 0, and so is a part of them
@@ -110,15 +107,3 @@ module _ (s : Bytes) (well : wellSlot s ≡ true) where
       go : (p : ℕ) → placeOf s ≡ p → word 29 s ≤ 4096
       go zero at = let z : allZero s ≡ true = sym (well-empty s at) ∙ well in omega (arith, zero-byte s 29 z, zero-byte s 30 z)
       go (suc p) at = length-1-to-4096 (λ e. omega (arith, e)) .1
-
--- ---- the slots of a well-formed table
-all-at : {A : Type 0} (f : A → Bool) (xs : List A) (i : ℕ) (d : A) → all f xs ≡ true → i < length xs → f (getD xs i d) ≡ true
-all-at f [] i d a h = absurd (not-suc-le-zero h)
-all-at f (x ∷ xs) zero d a h = and-parts (f x) (all f xs) a .0
-all-at f (x ∷ xs) (suc i) d a h = all-at f xs i d (and-parts (f x) (all f xs) a .1) (le-of-suc-le-suc h)
-
-pub slot-well : (t : Bytes) (i : ℕ) → wellTable t ≡ true → i < slotCount t → wellSlot (part (4288 * i) 4288 t) ≡ true
-unfolding wellTable
-slot-well t i w h =
-    rw (getD-slots t i h) at
-    (all-at wellSlot (slotBytes t) i [] (and-parts (all wellSlot (slotBytes t)) (distinct (slotsOf t)) w .0) (rw (length-bytes t) h))

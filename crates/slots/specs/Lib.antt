@@ -1,5 +1,3 @@
 pub mod Places
 pub mod Heads
 pub mod Taken
-pub mod Again
-pub mod LookUp

@@ -1,5 +1,6 @@
 -- The places of document 01, "Slots", by their numbers.
 use Prim.Native.Nat.{ℕ}
+use Rattle.profile.specs.Slot.{Entry, reserved, enabled, disabled}
 use Rattle.slots.specs.declared.place.Place.{Place}
 use Rattle.slots.specs.declared.place.Place.the-variants.{Empty, Reserved, Enabled, Disabled}
 
@@ -9,3 +10,9 @@ placeNumber Empty = 0
 placeNumber Reserved = 1
 placeNumber Enabled = 2
 placeNumber Disabled = 3
+
+-- the place of what stands under a handle
+abbrev pub placeOfEntry : Entry → Place
+placeOfEntry (reserved n) = Reserved
+placeOfEntry (enabled r) = Enabled
+placeOfEntry (disabled r) = Disabled

@@ -1,0 +1,164 @@
+-- The first slot under a handle, and what looking the handle up answers. Assumes nothing.
+use Prim.Native.Nat.{ℕ, suc, _+_, _*_, _≤_, _<_}
+use mathlib.Core.Path.{_≡_, refl, sym, ap, _∙_}
+use mathlib.Core.List.{List, [], _∷_}
+use mathlib.Core.Bool.{Bool, true, false, true≢false}
+use native.Mathlib.Numerals.{add-one}
+use native.Mathlib.Omega.{arith}
+use native.Mathlib.Nat.{zero-add, not-suc-le-zero, le-of-suc-le-suc}
+use borrow.Author.Tests.{lt-ltb, le-ltb}
+use lib.Dec.{ltb}
+use lib.ListN.{length, getD, drop, length-drop}
+use Rattle.profile.specs.Bytes.{Bytes, part, same}
+use Rattle.profile.specs.Slot.{Entry, Slot, empty, taken, named, inUse}
+use Rattle.profile.specs.Table.{placeOf, unpack, slotCount, slotsOf}
+use Rattle.profile.specs.Agent.{Found, absent, one, next, find, times}
+use Rattle.profile.proofs.Logic.{split, same-refl, or-parts}
+use Rattle.profile.proofs.Lookup.{free-times}
+use Rattle.slots.specs.declared.place.Place.{Place}
+use Rattle.tables.specs.declared.lookup.Lookup.the-variants.{Absent, Two, At}
+use Rattle.slots.specs.Places.{placeNumber, placeOfEntry}
+use Rattle.tables.specs.LookUp.{lookUp, firstUnder}
+use Rattle.slots.proofs.Unpacking.{place-of-entry}
+use Rattle.tables.proofs.SlotParts.{length-slots, unpacked-at}
+
+-- ---- in use: the first slot under the handle is one of the slots
+pub first-none : (h : Bytes) (t : List Slot) → inUse h t ≡ false → firstUnder h t ≡ length t
+unfolding firstUnder
+first-none h [] e = refl
+first-none h (s ∷ t) e =
+    let p = or-parts (named h s) (inUse h t) e in
+    rw (p .0) (ap suc (first-none h t (p .1)))
+
+pub first-some : (h : Bytes) (t : List Slot) → inUse h t ≡ true → firstUnder h t < length t
+unfolding firstUnder
+first-some h [] e = absurd (true≢false (sym e))
+first-some h (s ∷ t) e = go (named h s) refl (first-some h t)
+  where
+    go : (b : Bool) → named h s ≡ b → (inUse h t ≡ true → firstUnder h t < length t) → firstUnder h (s ∷ t) < length (s ∷ t)
+    go true q ih = rw q (omega arith)
+    go false q ih = let below : firstUnder h t < length t = ih (rw q at e) in rw q (omega arith)
+
+pub in-use-below : (h : Bytes) (t : List Slot) (from n : ℕ) → from + length t ≡ n → ltb (from + firstUnder h t) n ≡ inUse h t
+in-use-below h t from n e = go (inUse h t) refl
+  where
+    go : (b : Bool) → inUse h t ≡ b → ltb (from + firstUnder h t) n ≡ b
+    go true q = lt-ltb (from + firstUnder h t) n (omega (arith, first-some h t q))
+    go false q = le-ltb (from + firstUnder h t) n (omega (arith, first-none h t q))
+
+-- ---- the first slot under the handle is the one found
+pub record FirstFound (h : Bytes) (t : List Slot) (i : ℕ) : Type 0 where
+  pub entry : Entry
+  pub found : find h t ≡ one i entry
+  pub counted : times h t ≡ suc (times h (drop (suc i) t))
+
+pub first-found : (h : Bytes) (t : List Slot) → firstUnder h t < length t → FirstFound h t (firstUnder h t)
+unfolding firstUnder
+first-found h [] l = absurd (not-suc-le-zero l)
+first-found h (empty ∷ t) l =
+    let r = first-found h t (omega arith) in
+    record { entry = r .entry; found = ap next (r .found); counted = r .counted }
+first-found h (taken k e ∷ t) l = go (same h k) refl (first-found h t)
+  where
+    go : (b : Bool) → same h k ≡ b → (firstUnder h t < length t → FirstFound h t (firstUnder h t)) → FirstFound h (taken k e ∷ t) (firstUnder h (taken k e ∷ t))
+    go true q ih = rw q (record { entry = e; found = rw q; counted = rw q })
+    go false q ih =
+        let r = ih (le-of-suc-le-suc (rw q at l)) in
+        rw q (record { entry = r .entry; found = rw (q, r .found); counted = rw q (r .counted) })
+
+-- a slot that is found is one of the slots, and is under the handle
+pub record Stands (h : Bytes) (t : List Slot) (i : ℕ) (e : Entry) (d : Slot) : Type 0 where
+  pub below : i < length t
+  pub there : getD t i d ≡ taken h e
+
+absent-one : (i : ℕ) (e : Entry) → absent ≡ one i e → ⊥
+absent-one i e q = let z : _≡_ {A = ℕ} 0 1 = cc in omega arith
+
+stands-next : (h : Bytes) (s : Slot) (t : List Slot) (i : ℕ) (e : Entry) (d : Slot) → (f : Found) → ((j : ℕ) → f ≡ one j e → Stands h t j e d) → next f ≡ one i e → Stands h (s ∷ t) i e d
+stands-next h s t i e d absent g q = absurd (absent-one i e q)
+stands-next h s t i e d (one j x) g q =
+    let ei : suc j ≡ i = cc in
+    let ex : x ≡ e = cc in
+    let r : Stands h t j e d = g j (ap (one j) ex) in
+    rw (← ei) (record { below = omega (arith, r .below); there = r .there })
+
+pub found-stands : (h : Bytes) (t : List Slot) (i : ℕ) (e : Entry) (d : Slot) → find h t ≡ one i e → Stands h t i e d
+found-stands h [] i e d q = absurd (absent-one i e q)
+found-stands h (empty ∷ t) i e d q = stands-next h empty t i e d (find h t) (λ j. found-stands h t j e d) q
+found-stands h (taken k x ∷ t) i e d q = go (λ j. found-stands h t j e d)
+  where
+    here : h ≡ k → one 0 x ≡ one i e → Stands h (taken k x ∷ t) i e d
+    here p r =
+        let ei : 0 ≡ i = cc in
+        let ex : x ≡ e = cc in
+        rw (← ei) (record { below = omega arith; there = rw (p, ex) })
+
+    go : ((j : ℕ) → find h t ≡ one j e → Stands h t j e d) → Stands h (taken k x ∷ t) i e d
+    go g = split h k
+        (λ p. here p (rw (p, same-refl k) at q))
+        (λ n. stands-next h (taken k x) t i e d (find h t) g (rw n at q))
+
+-- ---- how often the handle is there
+found-none : (h : Bytes) (t : List Slot) → inUse h t ≡ false → find h t ≡ absent
+found-none h [] e = refl
+found-none h (empty ∷ t) e = ap next (found-none h t e)
+found-none h (taken k x ∷ t) e =
+    let p = or-parts (same h k) (inUse h t) e in
+    rw (p .0) (ap next (found-none h t (p .1)))
+
+used-times : (h : Bytes) (t : List Slot) → inUse h t ≡ true → 1 ≤ times h t
+used-times h [] e = absurd (true≢false (sym e))
+used-times h (s ∷ t) e = go (named h s) refl (used-times h t)
+  where
+    go : (b : Bool) → named h s ≡ b → (inUse h t ≡ true → 1 ≤ times h t) → 1 ≤ times h (s ∷ t)
+    go true q ih = rw q (omega arith)
+    go false q ih = rw q (ih (rw q at e))
+
+-- ---- the three answers
+module _ (h : Bytes) (t : List Slot) (i : ℕ) (first : i ≡ firstUnder h t) where
+  pub looks-absent : length t ≤ i → lookUp h t ≡ Absent
+  unfolding lookUp
+  looks-absent l = go (inUse h t) refl
+    where
+      go : (b : Bool) → inUse h t ≡ b → lookUp h t ≡ Absent
+      go true q = absurd (omega (arith, first-some h t q))
+      go false q = rw (free-times h t q, found-none h t q)
+
+  module _ (below : i < length t) where
+    first-here : FirstFound h t i
+    first-here = rw first (first-found h t (rw first at below))
+
+    pub looks-two : inUse h (drop (i + 1) t) ≡ true → lookUp h t ≡ Two
+    unfolding lookUp
+    looks-two u =
+        let more : 1 ≤ times h (drop (suc i) t) = used-times h (drop (suc i) t) (rw add-one at u) in
+        rw (lt-ltb 1 (times h t) (omega (arith, first-here .counted)))
+
+    pub looks-at : (d : Slot) (p : Place) → inUse h (drop (i + 1) t) ≡ false → ((e : Entry) → getD t i d ≡ taken h e → p ≡ placeOfEntry e) → lookUp h t ≡ At i p
+    unfolding lookUp
+    looks-at d p u place =
+        let e = first-here .entry in
+        let none : times h (drop (suc i) t) ≡ 0 = free-times h (drop (suc i) t) (rw add-one at u) in
+        rw (le-ltb 1 (times h t) (omega (arith, first-here .counted)), first-here .found)
+        (ap (At i) (sym (place e (found-stands h t i e d (first-here .found) .there))))
+
+-- ---- over a table's bytes
+module _ (t h : Bytes) where
+  pub in-use-from : (from i : ℕ) → from ≤ slotCount t → i ≡ from + firstUnder h (drop from (slotsOf t)) → ltb i (slotCount t) ≡ inUse h (drop from (slotsOf t))
+  in-use-from from i l e =
+      rw e
+      (in-use-below h (drop from (slotsOf t)) from (slotCount t) (rw (length-drop from (slotsOf t), length-slots t) (omega arith)))
+
+  module _ (i : ℕ) (first : i ≡ 0 + firstUnder h (slotsOf t)) where
+    pub answers-absent : slotCount t ≤ i → lookUp h (slotsOf t) ≡ Absent
+    answers-absent l = looks-absent h (slotsOf t) i (first ∙ zero-add _) (rw (length-slots t) l)
+
+    module _ (below : i < slotCount t) where
+      pub answers-two : inUse h (drop (i + 1) (slotsOf t)) ≡ true → lookUp h (slotsOf t) ≡ Two
+      answers-two = looks-two h (slotsOf t) i (first ∙ zero-add _) (rw (length-slots t) below)
+
+      pub answers-at : (s : Bytes) (p : Place) → inUse h (drop (i + 1) (slotsOf t)) ≡ false → s ≡ part (4288 * i) 4288 t → placeNumber p ≡ placeOf s
+          → lookUp h (slotsOf t) ≡ At i p
+      answers-at s p alone e n =
+          looks-at h (slotsOf t) i (first ∙ zero-add _) (rw (length-slots t) below) (unpack []) p alone
+          (λ x there. place-of-entry s p h x n (rw e (sym (unpacked-at t i below) ∙ there)))

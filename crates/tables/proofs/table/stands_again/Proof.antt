@@ -1,0 +1,56 @@
+-- `tables::table::stands_again` meets its contract: an empty slot has no handle, and any other is looked for behind itself. Assumes nothing.
+use denote.Ref.{now}
+use mathlib.Core.Path.{sym, _∙_}
+use Rattle.tables.proofs.Turns.{again-empty, again-taken}
+use borrow.Author.Needs.{needs}
+use Rattle.tables.proofs.table.stands_again.Statement.{statement}
+use Rattle.tables.proofs.table.stands_again.Tie as tie
+
+slot-at-requires : tie.Need-slot-at-requires
+slot-at-requires c κs = search needs
+
+shared-slice-read-slot-place : tie.Need-shared-slice-read-slot-place
+shared-slice-read-slot-place c = search needs
+
+slot-place-requires : tie.Need-slot-place-requires
+slot-place-requires c κs = search needs
+
+returns : tie.Need-returns
+returns c =
+    let a = c .before .before .before .before .before in
+    sym (again-empty (now (a .args .t)) (a .args .i) (a .pre) _ (c .before .before .before .slot-at .ensures .0) (sym (c .before .slot-place .ensures) ∙ c .if1 .taken))
+
+sub-in-use-from : tie.Need-sub-in-use-from
+sub-in-use-from c = search needs
+
+part-in-use-from-start : tie.Need-part-in-use-from-start
+part-in-use-from-start c = search needs
+
+part-in-use-from-end : tie.Need-part-in-use-from-end
+part-in-use-from-end c = search needs
+
+add-in-use-from : tie.Need-add-in-use-from
+add-in-use-from c = search needs
+
+in-use-from-requires : tie.Need-in-use-from-requires
+in-use-from-requires c κs = search needs
+
+returns-2 : tie.Need-returns-2
+returns-2 c =
+    let a = c .before .before .before .before .before .before .before in
+    c .in-use-from .ensures ∙ sym (again-taken (now (a .args .t)) (a .args .i) (a .pre) _ (c .before .before .before .before .before .slot-at .ensures .0) (λ e. c .before .before .if1 .left (c .before .before .before .slot-place .ensures ∙ e)))
+
+pub stands-again-spec : {M : Type 1} → statement M
+stands-again-spec =
+    tie.close
+    (tie.spec
+    slot-at-requires
+    shared-slice-read-slot-place
+    slot-place-requires
+    returns
+    sub-in-use-from
+    part-in-use-from-start
+    part-in-use-from-end
+    add-in-use-from
+    in-use-from-requires
+    returns-2)

@@ -1,0 +1,6 @@
+// The table of slots, read where it stands: nothing here writes.
+pub mod part; // part.rt: the table's slots, one by one
+pub mod handle; // handle.rt: slots under a handle
+pub mod table; // table.rt: a well-formed table
+pub mod room; // room.rt: the lowest empty slot
+pub mod lookup; // lookup.rt: the record under a handle

@@ -1,0 +1,26 @@
+// The record under a handle.
+use slots::place::Place;
+ghost use mathlib.Core.Path.{_≡_};
+ghost use Rattle.profile.specs.Table.{slotsOf};
+ghost use Rattle.tables.specs.LookUp.{lookUp};
+
+// In no slot; in more than one; or in one, with its number and the place of its record.
+pub enum Lookup {
+    Absent,
+    Two,
+    At(usize, Place),
+}
+
+// 8 and 4: "the request's handle is in more than one slot; tested just before 4".
+pub fn look_up(t: &[u8], h: [u8; 10]) -> Lookup
+    ensures { λ r. ⌜ r ≡ lookUp h (slotsOf (now (t .entry))) ⌝ }
+{
+    let i = crate::handle::first_under(t, &h, 0);
+    if i >= t.len() / 4288 {
+        return Lookup::Absent;
+    }
+    if crate::handle::in_use_from(t, &h, i + 1) {
+        return Lookup::Two;
+    }
+    Lookup::At(i, slots::place::place_of(crate::part::slot_at(t, i)))
+}
