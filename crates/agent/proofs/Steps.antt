@@ -21,7 +21,7 @@ use Rattle.requests.specs.declared.asked.Ask.the-variants.{No}
 use Rattle.requests.specs.declared.asked.Asked.{Asked}
 use Rattle.requests.specs.Answer.{Answers, whyMeans, bodyMeans}
 use Rattle.requests.proofs.ByCase.{says-no, says-yes}
-use Rattle.rights.specs.Serving.{Serves, answerTo}
+use Rattle.decisions.specs.Serving.{Serves, answerTo}
 use Rattle.queries.specs.Query.{replyTo}
 use Rattle.agent.specs.Call.{outcome, whyOf, Refuses, Asks}
 

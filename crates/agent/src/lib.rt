@@ -13,7 +13,7 @@ ghost use Rattle.profile.specs.Frame.{kindNumber, frame as frameOf};
 ghost use Rattle.profile.specs.Request.{readRequest};
 ghost use Rattle.profile.specs.Agent.{agent, obey, lowestEmpty};
 ghost use Rattle.requests.specs.Answer.{whyMeans, bodyMeans};
-ghost use Rattle.rights.specs.Serving.{Ready, Serves, answerTo};
+ghost use Rattle.decisions.specs.Serving.{Ready, Serves, answerTo};
 ghost use Rattle.agent.specs.Call.{outcome, callOf, whyOf, Refuses, Asks};
 
 // Statuses of a frame that is no request.
@@ -64,18 +64,18 @@ fn serve(table: &mut [u8], frame: &[u8], reply: &mut [u8], asked: Asked, body: B
     let k = asked.new;
     let key = asked.key;
     match body {
-        Body::Setup { length } => rights::setup::set_up(table, reply, h, length),
+        Body::Setup { length } => setups::setup::set_up(table, reply, h, length),
         Body::Install {
             count,
             hashes,
             at,
             length,
-        } => rights::install::install(table, reply, h, key, count, hashes, frame, at, length),
+        } => setups::install::install(table, reply, h, key, count, hashes, frame, at, length),
         Body::Retrieve => rights::retrieve::retrieve(table, reply, h, k),
         Body::Query => rights::rek::rek_query(table, reply, h, k),
         Body::Enable { count } => rights::enable::enable(table, reply, h, count),
         Body::Remove => rights::remove::remove(table, reply, h),
-        Body::Cancel => rights::cancel::cancel(table, reply, h),
+        Body::Cancel => setups::cancel::cancel(table, reply, h),
         Body::List { limit, hashes, at } => queries::handle_list(
             table,
             reply,

@@ -4,9 +4,7 @@ use mathlib.Core.Path.{_≡_, sym, ap, _∙_}
 use mathlib.Core.List.{[], _∷_, _++_, append-nil}
 use native.Mathlib.Nat.{add-zero}
 use native.Mathlib.Omega.{arith}
-use lib.ListN.{length, getD, drop, replicate-append-replicate, length-drop}
-use mir.Syntax.{w8}
-use mir.Val.{Fits}
+use lib.ListN.{length, drop, replicate-append-replicate, length-drop}
 use Rattle.profile.specs.Bytes.{Bytes, byte, part, word, word-bytes, zeros, joined}
 use Rattle.profile.specs.Slot.{hashSize, mostHashes, Count, Right, recount, reserved, enabled, disabled, empty, taken, HasRoom}
 use Rattle.profile.specs.Table.{rightOf, unpack, image, blank, pack}
@@ -17,10 +15,6 @@ use Rattle.profile.proofs.WellFormed.{slot-fits}
 use Rattle.octets.specs.Over.{overAt}
 use Rattle.changes.specs.Change.{Placed, rightFrom}
 use Rattle.changes.proofs.Images.{place-over, handle-over, count-over, length-over, written, stored}
-
--- the bytes of a slice, each of which is known to fit, are below 256
-pub below-256 : (s : Bytes) → ((i : ℕ) → Fits w8 (getD s i 0)) → Bytes256 s
-below-256 s f i = omega (arith, f i)
 
 -- ---- the bytes of a slot of each place, as an image
 zeros-more : (n m : ℕ) (d : Bytes) → d ≡ zeros m → zeros n ++ d ≡ zeros (n + m)

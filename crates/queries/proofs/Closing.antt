@@ -15,7 +15,8 @@ use Rattle.profile.specs.Request.{list}
 use Rattle.profile.specs.Agent.{listed, fitting, act}
 use Rattle.replies.specs.Listed.{holding, listStart}
 use Rattle.replies.proofs.Growing.{list-closed}
-use Rattle.queries.specs.Query.{Ready, replyTo, mostOf}
+use Rattle.decisions.specs.Serving.{Ready}
+use Rattle.queries.specs.Query.{replyTo, mostOf}
 use Rattle.queries.proofs.ListedSlots.{each-take, each-10, few-15}
 
 -- ---- how many of at most 15 handles fit

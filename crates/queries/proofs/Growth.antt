@@ -20,7 +20,7 @@ use Rattle.replies.proofs.Growing.{hold-none, hold-more}
 use Rattle.tables.proofs.SlotParts.{length-slots}
 use Rattle.slots.proofs.WellSlots.{few-hashes}
 use Rattle.tables.proofs.WellTables.{slot-well}
-use Rattle.queries.specs.Query.{Ready}
+use Rattle.decisions.specs.Serving.{Ready}
 use Rattle.queries.proofs.ListedSlots.{listed-next, listed-whole, each-passed}
 
 -- ---- a slot of a well-formed table

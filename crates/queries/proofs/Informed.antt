@@ -14,7 +14,8 @@ use Rattle.slots.specs.declared.place.Place.the-variants.{Empty, Reserved, Enab
 use Rattle.tables.specs.declared.lookup.Lookup.the-variants.{Absent, Two, At}
 use Rattle.tables.specs.LookUp.{lookUp}
 use Rattle.tables.proofs.Records.{entryOf, absent-denied, two-denied, record-at, record-fits}
-use Rattle.queries.specs.Query.{Ready, replyTo}
+use Rattle.decisions.specs.Serving.{Ready}
+use Rattle.queries.specs.Query.{replyTo}
 
 module _ (t b h : Bytes) where
   -- whatever the answer is

@@ -8,7 +8,8 @@ ghost use Rattle.profile.specs.Table.{slotsOf};
 ghost use Rattle.profile.specs.Agent.{listed};
 ghost use Rattle.octets.specs.Over.{overAt};
 ghost use Rattle.replies.specs.Listed.{holding};
-ghost use Rattle.queries.specs.Query.{Ready, mostOf};
+ghost use Rattle.decisions.specs.Serving.{Ready};
+ghost use Rattle.queries.specs.Query.{mostOf};
 
 // "Limit 0 is none; otherwise the first whole handles that fit in limit bytes": a table never has more than 15.
 pub(crate) fn most_handles(limit: u16) -> usize

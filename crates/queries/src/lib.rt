@@ -6,7 +6,8 @@ ghost use Prim.Native.Nat.{_+_, _*_, _≤_};
 ghost use lib.ListN.{length, drop};
 ghost use Rattle.profile.specs.Bytes.{pieces};
 ghost use Rattle.profile.specs.Request.{list, info};
-ghost use Rattle.queries.specs.Query.{Ready, replyTo};
+ghost use Rattle.decisions.specs.Serving.{Ready};
+ghost use Rattle.queries.specs.Query.{replyTo};
 
 mod handles; // handles.rt: the handles of kind 8, slot by slot
 

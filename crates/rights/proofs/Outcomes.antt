@@ -1,51 +1,34 @@
--- The agent's answer to each kind, outcome by outcome. Assumes nothing.
-use Prim.Native.Nat.{ℕ, _≤_, _<_}
+-- The agent's answer to kinds 3 to 6, outcome by outcome. Assumes nothing.
+use Prim.Native.Nat.{ℕ}
 use mathlib.Core.Path.{_≡_, refl, sym, ap, _∙_}
 use mathlib.Core.List.{List, [], _∷_}
 use mathlib.Core.Logic.{⊎-elim}
-use mathlib.Core.Bool.{true, false, _||_, true≢false, false≢true}
+use mathlib.Core.Bool.{true, false, true≢false, false≢true}
 use native.Mathlib.Omega.{arith}
 use types.Run.{OneOf}
 use denote.Enum.Declared.{tagOf}
-use borrow.Author.Tests.{lt-ltb, le-ltb, eq-eqb, ne-eqb}
-use lib.Dec.{leb, ltb}
-use lib.ListN.{length, set}
-use Rattle.profile.specs.Bytes.{Bytes, part, word}
+use lib.ListN.{set}
+use Rattle.profile.specs.Bytes.{Bytes, part}
 use Rattle.profile.specs.Slot.{Count, Right, recount, reserved, enabled, disabled, Slot, empty, taken, inUse}
-use Rattle.profile.specs.Table.{placeOf, rightOf, slotCount, slotsOf}
-use Rattle.profile.specs.Frame.{parameter, duplicate, noSpace}
-use Rattle.profile.specs.Request.{setup, install, retrieve, query, enable, remove, cancel}
-use Rattle.profile.specs.Agent.{Given, nothing, theRight, theKey, done, onRecord, installAt, lendAt, enableAt, removeAt, cancelAt, act, lowestEmpty}
+use Rattle.profile.specs.Table.{rightOf, slotsOf}
+use Rattle.profile.specs.Frame.{duplicate}
+use Rattle.profile.specs.Request.{retrieve, query, enable, remove}
+use Rattle.profile.specs.Agent.{Given, nothing, theRight, theKey, done, onRecord, lendAt, enableAt, removeAt, act}
 use Rattle.profile.proofs.Strings.{Bytes256}
-use Rattle.profile.proofs.Logic.{leb-over, or-parts}
-use Rattle.profile.proofs.Lookup.{lowestEmpty-free}
 use Rattle.slots.specs.declared.place.Place.{Place}
 use Rattle.slots.specs.declared.place.Place.the-variants.{Empty, Reserved, Enabled, Disabled}
 use Rattle.slots.proofs.place.Place.{the-type}
 use Rattle.tables.specs.declared.lookup.Lookup.the-variants.{At}
 use Rattle.tables.specs.LookUp.{lookUp}
-use Rattle.tables.proofs.SlotParts.{length-slots}
-use Rattle.changes.specs.Change.{slotAt, Has}
-use Rattle.changes.proofs.Standing.{free-place}
-use Rattle.rights.specs.declared.decision.Decision.{Decision}
-use Rattle.rights.specs.declared.decision.Decision.the-variants.{Refuse, Change}
-use Rattle.rights.specs.Decisions.{takesPlace, awaited, lendable, installed, decided, unlessUsed}
-use Rattle.rights.specs.Serving.{Ready, answerTo}
-use Rattle.rights.proofs.Answers.{Denied}
-use Rattle.rights.proofs.Deciding.{Expects, refuses, stands, Held, held, lending-refused, lending-decided}
+use Rattle.changes.specs.Change.{slotAt}
+use Rattle.decisions.specs.declared.decision.Decision.{Decision}
+use Rattle.decisions.specs.declared.decision.Decision.the-variants.{Refuse, Change}
+use Rattle.decisions.specs.Decisions.{takesPlace, lendable, installed, decided, unlessUsed}
+use Rattle.decisions.specs.Serving.{Ready, answerTo}
+use Rattle.decisions.proofs.Answers.{Denied}
+use Rattle.decisions.proofs.Deciding.{Expects, refuses, stands, Held, held, lending-refused, lending-decided}
 
 -- ---- the places that the kinds take
--- 2: "record not reserved, 6"; 7: "not reserved, 6"
-install-expects : (u : List Slot) (h : Bytes) (x : Right) → Expects awaited (installAt u h x)
-install-expects u h x i (reserved n) q = absurd (true≢false q)
-install-expects u h x i (enabled r) q = refl
-install-expects u h x i (disabled r) q = refl
-
-cancel-expects : (u : List Slot) → Expects awaited (cancelAt u)
-cancel-expects u i (reserved n) q = absurd (true≢false q)
-cancel-expects u i (enabled r) q = refl
-cancel-expects u i (disabled r) q = refl
-
 -- 3, 4: "not enabled, 6"
 lend-expects : (u : List Slot) (k : Bytes) (give : Right → Given) → Expects lendable (lendAt u k give)
 lend-expects u k give i (reserved n) q = refl
@@ -63,12 +46,6 @@ remove-expects u i (reserved n) q = refl
 remove-expects u i (enabled r) q = absurd (true≢false q)
 remove-expects u i (disabled r) q = absurd (true≢false q)
 
-only-reserved : (p : Place) → takesPlace awaited p ≡ true → p ≡ Reserved
-only-reserved Empty q = absurd (false≢true q)
-only-reserved Reserved q = refl
-only-reserved Enabled q = absurd (false≢true q)
-only-reserved Disabled q = absurd (false≢true q)
-
 only-enabled : (p : Place) → takesPlace lendable p ≡ true → p ≡ Enabled
 only-enabled Empty q = absurd (false≢true q)
 only-enabled Reserved q = absurd (false≢true q)
@@ -83,32 +60,6 @@ not-disabled p others q = ⊎-elim (λ e. omega arith) (⊎-elim (λ e. omega ar
 module _ (T B h : Bytes) (bytes : Bytes256 T) (r : Ready T B) (d : Decision) where
   abbrev u : List Slot
   u = slotsOf T
-
-  -- 2 and 7
-  module _ (e : d ≡ decided awaited (lookUp h u)) where
-    pub install-refused : (x : Right) (n : ℕ) → d ≡ Refuse n → Denied n (answerTo T (install h x))
-    unfolding act
-    install-refused x n q = refuses h u awaited (installAt u h x) n (install-expects u h x) (sym e ∙ q)
-
-    pub cancel-refused : (n : ℕ) → d ≡ Refuse n → Denied n (answerTo T (cancel h))
-    unfolding act
-    cancel-refused n q = refuses h u awaited (cancelAt u) n (cancel-expects u) (sym e ∙ q)
-
-    module _ (i : ℕ) (o : Place) (q : d ≡ Change i o) where
-      pub held-reserved : Held T h i Reserved
-      held-reserved = let s = stands h u awaited i o (sym e ∙ q) in held T B h bytes r i Reserved (rw (← only-reserved o (s .1)) (s .0))
-
-      pub too-long : (x : Right) → word 29 (slotAt T i) < length (x .payload) → Denied 7 (answerTo T (install h x))
-      unfolding act
-      too-long x l = record { refusal = noSpace; numbered = refl; answer = held-reserved .acted-on (installAt u h x) ∙ rw (lt-ltb (word 29 (slotAt T i)) (length (x .payload)) l) }
-
-      pub installs : (x : Right) → length (x .payload) ≤ word 29 (slotAt T i) → answerTo T (install h x) ≡ done nothing (set u i (taken h (enabled x)))
-      unfolding act
-      installs x l = held-reserved .acted-on (installAt u h x) ∙ rw (le-ltb (word 29 (slotAt T i)) (length (x .payload)) l)
-
-      pub cancels : answerTo T (cancel h) ≡ done nothing (set u i empty)
-      unfolding act
-      cancels = held-reserved .acted-on (cancelAt u)
 
   -- 5 and 6
   module _ (e : d ≡ decided installed (lookUp h u)) where
@@ -187,33 +138,3 @@ module _ (T B h : Bytes) (bytes : Bytes256 T) (r : Ready T B) (d : Decision) whe
       pub queries : answerTo T (query h k) ≡ done (theKey (rightOf (slotAt T i) .key)) (set u i (taken k (disabled (rightOf (slotAt T i)))))
       unfolding act
       queries = lends (λ x. theKey (x .key))
-
--- ---- 1, by its tests
-module _ (T B h : Bytes) (n : ℕ) (r : Ready T B) where
-  pub no-length : n ≡ 0 → Denied 2 (answerTo T (setup h n))
-  unfolding act
-  no-length z = record { refusal = parameter; numbered = refl; answer = rw (eq-eqb n 0 z) }
-
-  module _ (some : n ≡ 0 → ⊥) where
-    pub handle-used : inUse h (slotsOf T) ≡ true → Denied 5 (answerTo T (setup h n))
-    unfolding act
-    handle-used y = record { refusal = duplicate; numbered = refl; answer = rw (ne-eqb n 0 some, y) }
-
-    module _ (free : inUse h (slotsOf T) ≡ false) (i : ℕ) (lowest : i ≡ lowestEmpty (slotsOf T)) where
-      pub no-room : (ltb 4096 n || leb (slotCount T) i) ≡ true → Denied 7 (answerTo T (setup h n))
-      unfolding act
-      no-room y = record { refusal = noSpace; numbered = refl; answer = rw (ne-eqb n 0 some, free, length-slots T, ← lowest, y) }
-
-      module _ (room : (ltb 4096 n || leb (slotCount T) i) ≡ false) where
-        below : i < slotCount T
-        below = leb-over (slotCount T) i (or-parts (ltb 4096 n) (leb (slotCount T) i) room .1)
-
-        pub has-room : Has T i
-        has-room = record { whole = r .whole; well = r .well; inside = below }
-
-        pub empty-slot : placeOf (slotAt T i) ≡ 0
-        empty-slot = rw lowest (free-place T (r .whole) (r .well) (lowestEmpty (slotsOf T)) (lowestEmpty-free (slotsOf T) (rw (length-slots T, ← lowest) below)))
-
-        pub sets-up : answerTo T (setup h n) ≡ done nothing (set (slotsOf T) i (taken h (reserved n)))
-        unfolding act
-        sets-up = rw (ne-eqb n 0 some, free, length-slots T, ← lowest, room)

@@ -1,9 +1,9 @@
 // Kind 5, Rights Enablement.
-use crate::decision::Decision;
-use crate::decision::INSTALLED;
+use decisions::decision::Decision;
+use decisions::decision::INSTALLED;
 use slots::place::Place;
 ghost use Rattle.profile.specs.Request.{enable as enablement};
-ghost use Rattle.rights.specs.Serving.{Ready, Serves, answerTo};
+ghost use Rattle.decisions.specs.Serving.{Ready, Serves, answerTo};
 
 // "absent, 4; reserved, 6. A disabled record is enabled with the request's count. An enabled one stays as it is, with
 // status 0, so that a return whose reply was lost can be sent again."
@@ -11,7 +11,7 @@ pub fn enable(table: &mut [u8], reply: &mut [u8], h: [u8; 10], count: u16)
     requires { ⌜ Ready (now table) (now reply) ⌝ }
     ensures { λ _. ⌜ Serves 5 (answerTo (now (table .entry)) (enablement h count)) (now (table .entry)) (now (reply .entry)) (now (table .exit)) (now (reply .exit)) ⌝ }
 {
-    match crate::decision::slot_under(table, h, INSTALLED) {
+    match decisions::decision::slot_under(table, h, INSTALLED) {
         Decision::Refuse(status) => replies::writer::reply_status(reply, 5, status),
         Decision::Change(i, place) => {
             let Place::Disabled = place else {

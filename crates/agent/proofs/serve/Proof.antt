@@ -8,7 +8,7 @@ use Rattle.requests.specs.declared.asked.Body.{Body}
 use Rattle.requests.specs.declared.asked.Ask.the-variants.{Yes}
 use Rattle.requests.specs.Answer.{bodyMeans, hashesIn, rightIn}
 use Rattle.requests.proofs.ByCase.{install-within, list-within}
-use Rattle.changes.proofs.SlotBytes.{below-256}
+use Rattle.octets.proofs.ByteBounds.{below-256}
 use Rattle.queries.proofs.Untouched.{list-keeps, info-keeps}
 use Rattle.profile.specs.Table.{slotsOf}
 use Rattle.profile.specs.Agent.{lowestEmpty}

@@ -4,7 +4,7 @@ use mathlib.Core.Path.{_∙_}
 use Prim.Native.Nat.{_+_, _-_, _*_}
 use native.Mathlib.Omega.{arith}
 use Rattle.profile.specs.Slot.{empty}
-use Rattle.changes.proofs.SlotBytes.{below-256}
+use Rattle.octets.proofs.ByteBounds.{below-256}
 use Rattle.changes.proofs.Lent.{lent-zeros, changed}
 use borrow.Author.Needs.{needs}
 use Rattle.changes.proofs.clear_slot.Statement.{statement}

@@ -5,7 +5,7 @@ use native.Mathlib.Omega.{arith}
 use Rattle.profile.specs.Bytes.{part}
 use Rattle.profile.specs.Slot.{recount, enabled, taken}
 use Rattle.profile.specs.Table.{rightOf}
-use Rattle.changes.proofs.SlotBytes.{below-256}
+use Rattle.octets.proofs.ByteBounds.{below-256}
 use Rattle.changes.proofs.Lent.{lent-placed, changed}
 use borrow.Author.Needs.{needs}
 use Rattle.changes.proofs.give_back.Statement.{statement}

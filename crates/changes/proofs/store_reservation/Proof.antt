@@ -3,7 +3,7 @@ use denote.Ref.{now}
 use Prim.Native.Nat.{_+_, _-_, _*_}
 use native.Mathlib.Omega.{arith}
 use Rattle.profile.specs.Slot.{reserved, taken}
-use Rattle.changes.proofs.SlotBytes.{below-256}
+use Rattle.octets.proofs.ByteBounds.{below-256}
 use Rattle.changes.proofs.Lent.{lent-placed, changed}
 use borrow.Author.Needs.{needs}
 use Rattle.changes.proofs.store_reservation.Statement.{statement}

@@ -1,6 +1,7 @@
 -- `changes::slot::enable` meets its contract: place and count are written. Assumes nothing.
 use denote.Ref.{now}
-use Rattle.changes.proofs.SlotBytes.{below-256, enables}
+use Rattle.octets.proofs.ByteBounds.{below-256}
+use Rattle.changes.proofs.SlotBytes.{enables}
 use borrow.Author.Needs.{needs}
 use Rattle.changes.proofs.slot.enable.Statement.{statement}
 use Rattle.changes.proofs.slot.enable.Tie as tie

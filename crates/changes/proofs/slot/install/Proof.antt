@@ -1,6 +1,7 @@
 -- `changes::slot::install` meets its contract: the fields of the right are written one after another. Assumes nothing.
 use denote.Ref.{now}
-use Rattle.changes.proofs.SlotBytes.{below-256, given-stored}
+use Rattle.octets.proofs.ByteBounds.{below-256}
+use Rattle.changes.proofs.SlotBytes.{given-stored}
 use borrow.Author.Needs.{needs}
 use Rattle.changes.proofs.slot.install.Statement.{statement}
 use Rattle.changes.proofs.slot.install.Tie as tie

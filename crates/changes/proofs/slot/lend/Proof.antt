@@ -1,6 +1,7 @@
 -- `changes::slot::lend` meets its contract: place and handle are written. Assumes nothing.
 use denote.Ref.{now}
-use Rattle.changes.proofs.SlotBytes.{below-256, lends}
+use Rattle.octets.proofs.ByteBounds.{below-256}
+use Rattle.changes.proofs.SlotBytes.{lends}
 use borrow.Author.Needs.{needs}
 use Rattle.changes.proofs.slot.lend.Statement.{statement}
 use Rattle.changes.proofs.slot.lend.Tie as tie

@@ -1,6 +1,7 @@
 -- `changes::slot::reserve` meets its contract: place, handle and length are written. Assumes nothing.
 use denote.Ref.{now}
-use Rattle.changes.proofs.SlotBytes.{below-256, reserves}
+use Rattle.octets.proofs.ByteBounds.{below-256}
+use Rattle.changes.proofs.SlotBytes.{reserves}
 use borrow.Author.Needs.{needs}
 use Rattle.changes.proofs.slot.reserve.Statement.{statement}
 use Rattle.changes.proofs.slot.reserve.Tie as tie

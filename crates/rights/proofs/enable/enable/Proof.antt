@@ -2,10 +2,10 @@
 use denote.Ref.{now}
 use mathlib.Core.Path.{ap, _∙_}
 use Rattle.profile.specs.Agent.{nothing}
-use Rattle.changes.proofs.SlotBytes.{below-256}
-use Rattle.rights.proofs.Answers.{refused-serves, done-serves, kept-serves}
+use Rattle.octets.proofs.ByteBounds.{below-256}
+use Rattle.decisions.proofs.Answers.{refused-serves, done-serves, kept-serves}
 use Rattle.rights.proofs.Outcomes.{not-disabled, enable-refused, held-disabled, stays, returned}
-use Rattle.rights.specs.declared.decision.Decision.the-variants.{Change}
+use Rattle.decisions.specs.declared.decision.Decision.the-variants.{Change}
 use borrow.Author.Needs.{needs}
 use Rattle.rights.proofs.enable.enable.Statement.{statement}
 use Rattle.rights.proofs.enable.enable.Tie as tie

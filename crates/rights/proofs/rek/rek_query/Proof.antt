@@ -6,8 +6,8 @@ use Rattle.profile.specs.Table.{rightOf}
 use Rattle.profile.specs.Frame.{frame}
 use Rattle.profile.specs.Agent.{theKey, writeGiven}
 use Rattle.changes.specs.Change.{slotAt}
-use Rattle.changes.proofs.SlotBytes.{below-256}
-use Rattle.rights.proofs.Answers.{refused-serves, done-serves}
+use Rattle.octets.proofs.ByteBounds.{below-256}
+use Rattle.decisions.proofs.Answers.{refused-serves, done-serves}
 use Rattle.rights.proofs.Outcomes.{query-refused, held-lendable, queries}
 use borrow.Author.Needs.{needs}
 use Rattle.rights.proofs.rek.rek_query.Statement.{statement}

@@ -1,9 +1,9 @@
 -- `rights::remove::remove` meets its contract: refused as it was decided, or the slot cleared. Assumes nothing.
 use denote.Ref.{now}
 use Rattle.profile.specs.Agent.{nothing}
-use Rattle.changes.proofs.SlotBytes.{below-256}
-use Rattle.rights.proofs.Answers.{refused-serves, done-serves}
-use Rattle.rights.proofs.Deciding.{has-slot}
+use Rattle.octets.proofs.ByteBounds.{below-256}
+use Rattle.decisions.proofs.Answers.{refused-serves, done-serves}
+use Rattle.decisions.proofs.Deciding.{has-slot}
 use Rattle.rights.proofs.Outcomes.{remove-refused, removes}
 use borrow.Author.Needs.{needs}
 use Rattle.rights.proofs.remove.remove.Statement.{statement}

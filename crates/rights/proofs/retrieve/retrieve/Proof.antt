@@ -6,9 +6,9 @@ use Rattle.profile.specs.Table.{rightOf}
 use Rattle.profile.specs.Frame.{frame}
 use Rattle.profile.specs.Agent.{theRight, writeGiven}
 use Rattle.changes.specs.Change.{slotAt}
-use Rattle.changes.proofs.SlotBytes.{below-256}
-use Rattle.rights.proofs.Answers.{refused-serves, done-serves}
-use Rattle.rights.proofs.Deciding.{fits-lent}
+use Rattle.octets.proofs.ByteBounds.{below-256}
+use Rattle.decisions.proofs.Answers.{refused-serves, done-serves}
+use Rattle.decisions.proofs.Deciding.{fits-lent}
 use Rattle.rights.proofs.Outcomes.{retrieve-refused, held-lendable, retrieves}
 use borrow.Author.Needs.{needs}
 use Rattle.rights.proofs.retrieve.retrieve.Statement.{statement}

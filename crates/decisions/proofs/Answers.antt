@@ -1,0 +1,32 @@
+-- An answer of the agent as it shows in the table and the reply buffer. Assumes nothing.
+use Prim.Native.Nat.{ℕ}
+use mathlib.Core.Path.{_≡_, refl, sym, ap, _∙_}
+use mathlib.Core.List.{List, []}
+use Rattle.profile.specs.Bytes.{Bytes, over}
+use Rattle.profile.specs.Slot.{Slot}
+use Rattle.profile.specs.Table.{slotsOf, tableOf}
+use Rattle.profile.specs.Frame.{Refusal, code, frame}
+use Rattle.profile.specs.Agent.{Given, nothing, Answer, deny, done, writeGiven, replyFrame}
+use Rattle.profile.proofs.Strings.{Bytes256}
+use Rattle.profile.proofs.Tables.{table-slots}
+use Rattle.decisions.specs.Serving.{Ready, Serves}
+
+-- refused with the status n
+pub record Denied (n : ℕ) (a : Answer) : Type 0 where
+  pub refusal : Refusal
+  pub numbered : code refusal ≡ n
+  pub answer : a ≡ deny refusal
+
+module _ (kind : ℕ) (a : Answer) (T B B' : Bytes) where
+  -- "Every status but 0 leaves the table unchanged."
+  pub refused-serves : (n : ℕ) → Denied n a → B' ≡ over (frame kind n []) B → Serves kind a T B T B'
+  unfolding replyFrame
+  refused-serves n d e = rw (d .answer) (record { table-is = refl; reply-is = e ∙ ap (λ (m : ℕ). over (frame kind m []) B) (sym (d .numbered)) })
+
+  pub done-serves : (g : Given) (u : List Slot) (T' : Bytes) → a ≡ done g u → T' ≡ tableOf u → B' ≡ over (frame kind 0 (writeGiven g)) B → Serves kind a T B T' B'
+  unfolding replyFrame
+  done-serves g u T' d t e = rw d (record { table-is = t; reply-is = e })
+
+  -- done with nothing changed
+  pub kept-serves : Bytes256 T → Ready T B → a ≡ done nothing (slotsOf T) → B' ≡ over (frame kind 0 []) B → Serves kind a T B T B'
+  kept-serves bytes r d e = done-serves nothing (slotsOf T) T d (sym (table-slots T bytes (r .whole) (r .well))) e

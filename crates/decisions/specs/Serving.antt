@@ -1,0 +1,24 @@
+-- What a function that serves a request takes for granted, and what it does to the table and the reply buffer.
+use Prim.Native.Nat.{ℕ, _≤_}
+use mathlib.Core.Path.{_≡_}
+use mathlib.Core.Bool.{true}
+use lib.ListN.{length}
+use Rattle.profile.specs.Bytes.{Bytes}
+use Rattle.profile.specs.Table.{slotsOf, wholeSlots, wellTable}
+use Rattle.profile.specs.Request.{Request}
+use Rattle.profile.specs.Agent.{Answer, act, lowestEmpty, replied}
+
+-- a table and a reply buffer that passed the tests for 101, 102 and 103
+pub record Ready (table buffer : Bytes) : Type 0 where
+  pub whole : wholeSlots table ≡ true
+  pub well : wellTable table ≡ true
+  pub room : 4279 ≤ length buffer
+
+-- what the agent answers to a request, on a table's bytes
+abbrev pub answerTo : Bytes → Request → Answer
+answerTo table q = act (lowestEmpty (slotsOf table)) (slotsOf table) q
+
+-- the table and the reply buffer afterwards, every byte of them, are those of the answer
+pub record Serves (kind : ℕ) (a : Answer) (table buffer table' buffer' : Bytes) : Type 0 where
+  pub table-is : table' ≡ replied kind a table buffer .table
+  pub reply-is : buffer' ≡ replied kind a table buffer .reply

@@ -1,0 +1,26 @@
+// Kind 1, Installation Setup.
+ghost use Rattle.profile.specs.Request.{setup as asking};
+ghost use Rattle.decisions.specs.Serving.{Ready, Serves, answerTo};
+
+// "length 0, 2; handle in any non-empty slot, 5; length over 4,096 or no empty slot, 7. The lowest empty slot becomes
+// reserved."
+pub fn set_up(table: &mut [u8], reply: &mut [u8], h: [u8; 10], n: u16)
+    requires { ⌜ Ready (now table) (now reply) ⌝ }
+    ensures { λ _. ⌜ Serves 1 (answerTo (now (table .entry)) (asking h n)) (now (table .entry)) (now (reply .entry)) (now (table .exit)) (now (reply .exit)) ⌝ }
+{
+    if n == 0 {
+        replies::writer::reply_status(reply, 1, 2);
+        return;
+    }
+    if tables::handle::in_use(table, h) {
+        replies::writer::reply_status(reply, 1, 5);
+        return;
+    }
+    let i = tables::room::lowest_empty(table);
+    if (4096 < n) | (table.len() / 4288 <= i) {
+        replies::writer::reply_status(reply, 1, 7);
+        return;
+    }
+    changes::store_reservation(table, i, h, n);
+    replies::writer::reply_status(reply, 1, 0);
+}
