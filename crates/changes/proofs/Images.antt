@@ -9,7 +9,7 @@ use Rattle.profile.specs.Slot.{hashSize, mostHashes, Count, Right, recount, Has
 use Rattle.profile.specs.Table.{slotHead, imageFields, image, blank}
 use Rattle.profile.proofs.Counts.{spare-small}
 use Rattle.profile.proofs.Strings.{length-zeros, length-each}
-use Rattle.octets.specs.Over.{overAt}
+use Rattle.buffers.specs.Over.{overAt}
 use Rattle.changes.proofs.OverFields.{over-field, zeros-split}
 
 -- ---- one field changed

@@ -8,7 +8,7 @@ use lib.ListN.{length, getD, take, drop, set, replicate-append-replicate}
 use lib.Seq.{drop-at, take-append-add, drop-append-add}
 use Rattle.profile.specs.Bytes.{Bytes, zeros, joined}
 use Rattle.profile.proofs.Strings.{total}
-use Rattle.octets.specs.Over.{overAt}
+use Rattle.buffers.specs.Over.{overAt}
 
 -- behind some bytes, writing goes on as if they were not there
 over-behind : (p d x : Bytes) (at : ℕ) → overAt (length p + at) x (p ++ d) ≡ p ++ overAt at x d

@@ -12,7 +12,7 @@ use Rattle.profile.proofs.Counts.{blank-count}
 use Rattle.profile.proofs.Strings.{Bytes256, length-zeros, length-part, length-pieces, each-pieces, joined-pieces}
 use Rattle.profile.proofs.Unpack.{pack-unpack}
 use Rattle.profile.proofs.WellFormed.{slot-fits}
-use Rattle.octets.specs.Over.{overAt}
+use Rattle.buffers.specs.Over.{overAt}
 use Rattle.changes.specs.Change.{Placed, rightFrom}
 use Rattle.changes.proofs.Images.{place-over, handle-over, count-over, length-over, written, stored}
 

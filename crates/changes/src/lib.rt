@@ -21,7 +21,7 @@ pub fn clear_slot(t: &mut [u8], i: usize)
 {
     let from = SLOT * i;
     let to = from + SLOT;
-    octets::put::clear(&mut t[from..to]);
+    zeros::clear(&mut t[from..to]);
 }
 
 // Kind 1: an empty slot "becomes reserved", with "the room asked for".

@@ -13,7 +13,7 @@ pub fn reserve(s: &mut [u8], h: [u8; 10], n: u16)
     ensures { λ _. ⌜ now (s .exit) ≡ pack (taken h (reserved n)) ⌝ }
 {
     crate::fields::put_label(s, 1, 0, h);
-    octets::put::put_word(s, 29, n);
+    buffers::put_word(s, 29, n);
 }
 
 // In a reserved slot "hash count, key, count and payload" are all 0: the bytes behind the hashes and the payload need no
@@ -42,7 +42,7 @@ pub fn lend(s: &mut [u8], k: [u8; 10])
     ensures { λ _. ⌜ now (s .exit) ≡ pack (taken k (disabled (rightOf (now (s .entry))))) ⌝ }
 {
     crate::fields::put_place(s, 3);
-    octets::put::put_bytes(s, 1, &k);
+    buffers::put_bytes(s, 1, &k);
 }
 
 // The place's two bits and the count: handle, key, hashes and payload stay.
@@ -51,5 +51,5 @@ pub fn enable(s: &mut [u8], count: u16)
     ensures { λ _. ⌜ now (s .exit) ≡ pack (taken (part 1 10 (now (s .entry))) (enabled (recount count (rightOf (now (s .entry)))))) ⌝ }
 {
     crate::fields::put_place(s, 2);
-    octets::put::put_word(s, 27, count);
+    buffers::put_word(s, 27, count);
 }

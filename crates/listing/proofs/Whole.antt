@@ -8,7 +8,7 @@ use lib.ListN.{length, length-append}
 use Rattle.profile.specs.Bytes.{Bytes, over}
 use Rattle.profile.specs.Table.{wholeSlots, wellTable}
 use Rattle.profile.specs.Listing.{header, listing}
-use Rattle.octets.proofs.Overlays.{over-start}
+use Rattle.buffers.proofs.Overlays.{over-start}
 use Rattle.listing.specs.Written.{Wrote, Listable, linesOf, refusal}
 use Rattle.listing.proofs.Writing.{wrote-then}
 

@@ -7,8 +7,8 @@ use native.Mathlib.Nat.{add-zero}
 use lib.ListN.{length, take, length-append, take-append-drop}
 use Rattle.profile.specs.Bytes.{Bytes}
 use Rattle.profile.specs.Text.{text}
-use Rattle.octets.specs.Over.{overAt}
-use Rattle.octets.proofs.Overlays.{over-length, over-more}
+use Rattle.buffers.specs.Over.{overAt}
+use Rattle.buffers.proofs.Overlays.{over-length, over-more}
 use Rattle.listing.proofs.Digits.{number-most, number-few}
 use Rattle.listing.specs.Written.{Wrote, number, field, placed, refusal}
 

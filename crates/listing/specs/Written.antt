@@ -8,7 +8,7 @@ use Rattle.profile.specs.Bytes.{Bytes}
 use Rattle.profile.specs.Text.{text}
 use Rattle.profile.specs.Table.{slotBytes, wholeSlots, wellTable}
 use Rattle.profile.specs.Listing.{decimal, placeWord, line, lines, refusedLine}
-use Rattle.octets.specs.Over.{overAt}
+use Rattle.buffers.specs.Over.{overAt}
 
 -- bytes stand in a buffer from a place on, which was d and is d', and end within it
 pub record Wrote (xs : Bytes) (at : ℕ) (d d' : Bytes) (end : ℕ) : Type 0 where

@@ -10,7 +10,7 @@ pub(crate) fn put_word(out: &mut [u8], at: usize, word: &[u8]) -> usize
     requires { ⌜ at + length (now word) ≤ length (now out) ⌝ }
     ensures { λ r. ⌜ Wrote (now (word .entry)) at (now (out .entry)) (now (out .exit)) r ⌝ }
 {
-    octets::put::put_bytes(out, at, word);
+    buffers::put_bytes(out, at, word);
     at + word.len()
 }
 

@@ -3,5 +3,3 @@ pub mod ByteBounds
 pub mod Parts
 pub mod Copying
 pub mod Comparing
-pub mod Overlays
-pub mod ZeroBytes

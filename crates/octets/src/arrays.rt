@@ -5,7 +5,7 @@ ghost use lib.ListN.{length, take, drop};
 ghost use Rattle.profile.specs.Bytes.{part, pieces};
 
 // The one copying loop: arrays of every width, and parts of a buffer, are filled by it.
-pub(crate) fn copy_from(d: &mut [u8], s: &[u8], at: usize)
+pub fn copy_from(d: &mut [u8], s: &[u8], at: usize)
     requires { ⌜ at + length (now d) ≤ length (now s) ⌝ }
     ensures { λ _. ⌜ now (d .exit) ≡ part at (length (now (d .entry))) (now (s .entry)) ⌝ }
 {

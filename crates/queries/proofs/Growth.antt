@@ -14,7 +14,7 @@ use Rattle.profile.specs.Agent.{listedSlot, listed}
 use Rattle.profile.proofs.Logic.{if-cases}
 use Rattle.profile.proofs.Strings.{length-part}
 use Rattle.profile.proofs.WellFormed.{few-slots}
-use Rattle.octets.specs.Over.{overAt}
+use Rattle.buffers.specs.Over.{overAt}
 use Rattle.replies.specs.Listed.{holding}
 use Rattle.replies.proofs.Growing.{hold-none, hold-more}
 use Rattle.tables.proofs.SlotParts.{length-slots}

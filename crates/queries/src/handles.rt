@@ -6,7 +6,7 @@ ghost use lib.ListN.{length, take};
 ghost use Rattle.profile.specs.Bytes.{if_then_else_, part};
 ghost use Rattle.profile.specs.Table.{slotsOf};
 ghost use Rattle.profile.specs.Agent.{listed};
-ghost use Rattle.octets.specs.Over.{overAt};
+ghost use Rattle.buffers.specs.Over.{overAt};
 ghost use Rattle.replies.specs.Listed.{holding};
 ghost use Rattle.decisions.specs.Serving.{Ready};
 ghost use Rattle.queries.specs.Query.{mostOf};

@@ -10,8 +10,8 @@ use Rattle.profile.specs.Table.{hashCountOf, countBytes, rightOf}
 use Rattle.profile.specs.Frame.{Refusal, code, frame}
 use Rattle.profile.specs.Agent.{Given, theRight, theKey, deny, done, writeGiven, replyFrame}
 use Rattle.profile.proofs.Strings.{length-part, length-pieces, joined-pieces}
-use Rattle.octets.specs.Over.{overAt}
-use Rattle.octets.proofs.Overlays.{over-start, over-length, over-more}
+use Rattle.buffers.specs.Over.{overAt}
+use Rattle.buffers.proofs.Overlays.{over-start, over-length, over-more}
 use Rattle.replies.specs.Written.{headOf, infoOf}
 
 -- ---- written part by part

@@ -11,8 +11,8 @@ use Rattle.profile.specs.Frame.{frame}
 use Rattle.profile.specs.Slot.{Slot}
 use Rattle.profile.specs.Agent.{handles, done, replyFrame}
 use Rattle.profile.proofs.Strings.{length-each}
-use Rattle.octets.specs.Over.{overAt}
-use Rattle.octets.proofs.Overlays.{over-start, over-length, over-more}
+use Rattle.buffers.specs.Over.{overAt}
+use Rattle.buffers.proofs.Overlays.{over-start, over-length, over-more}
 use Rattle.replies.specs.Written.{headOf}
 use Rattle.replies.specs.Listed.{holding, listStart}
 

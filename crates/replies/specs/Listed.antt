@@ -3,7 +3,7 @@ use Prim.Native.Nat.{ℕ, _+_, _*_}
 use mathlib.Core.List.{List, [], _∷_, _++_}
 use mathlib.Core.Bool.{Bool}
 use Rattle.profile.specs.Bytes.{Bytes, if_then_else_, joined}
-use Rattle.octets.specs.Over.{overAt}
+use Rattle.buffers.specs.Over.{overAt}
 use Rattle.replies.specs.Written.{headOf}
 
 -- the buffer b with handles, the first at offset 5

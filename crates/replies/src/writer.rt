@@ -7,7 +7,7 @@ ghost use Rattle.profile.specs.Bytes.{part, word, over};
 ghost use Rattle.profile.specs.Table.{hashCountOf, countBytes, rightOf};
 ghost use Rattle.profile.specs.Frame.{frame};
 ghost use Rattle.profile.specs.Agent.{theRight, theKey, writeGiven};
-ghost use Rattle.octets.specs.Over.{overAt};
+ghost use Rattle.buffers.specs.Over.{overAt};
 ghost use Rattle.replies.specs.Written.{headOf, infoOf};
 
 // "Reply: version 3 bits (1), kind 5 bits as asked; status 8 bits; body length 16 bits": the head, in front of a body of n bytes.
@@ -15,8 +15,8 @@ fn put_head(reply: &mut [u8], kind: u8, status: u8, n: u16)
     requires { ⌜ (kind < 32) × (4 ≤ length (now reply)) ⌝ }
     ensures { λ _. ⌜ now (reply .exit) ≡ overAt 0 (headOf kind status n) (now (reply .entry)) ⌝ }
 {
-    let head = octets::put::frame_start(kind, status, n);
-    octets::put::put_bytes(reply, 0, &head);
+    let head = buffers::frame_start(kind, status, n);
+    buffers::put_bytes(reply, 0, &head);
 }
 
 // A body's key, as kinds 3 and 4 have it first.
@@ -24,7 +24,7 @@ fn put_key(reply: &mut [u8], slot: &[u8])
     requires { ⌜ (20 ≤ length (now reply)) × (27 ≤ length (now slot)) ⌝ }
     ensures { λ _. ⌜ now (reply .exit) ≡ overAt 4 (part 11 16 (now (slot .entry))) (now (reply .entry)) ⌝ }
 {
-    octets::put::put_part(reply, 4, slot, 11, 16);
+    buffers::put_part(reply, 4, slot, 11, 16);
 }
 
 // "Every status but 0 has an empty body", and so have the successes of kinds 1, 2 and 5 to 7.
@@ -49,11 +49,11 @@ pub fn reply_info(reply: &mut [u8], slot: &[u8])
     requires { ⌜ (4102 ≤ length (now reply)) × (length (now slot) ≡ 4288) × (word 29 (now slot) ≤ 4096) ⌝ }
     ensures { λ _. ⌜ now (reply .exit) ≡ over (frame 9 0 (writeGiven (infoOf (rightOf (now (slot .entry)))))) (now (reply .entry)) ⌝ }
 {
-    let count = bits::words::word_at(slot, 27);
-    let length = bits::words::word_at(slot, 29);
+    let count = words::word_at(slot, 27);
+    let length = words::word_at(slot, 29);
     put_head(reply, 9, 0, 2 + length);
-    octets::put::put_word(reply, 4, count);
-    octets::put::put_part(reply, 6, slot, 192, length as usize);
+    buffers::put_word(reply, 4, count);
+    buffers::put_part(reply, 6, slot, 192, length as usize);
 }
 
 // What stands between a right's key and its hashes: "count, hash count 4 bits, 4 zero bits".
@@ -61,8 +61,8 @@ fn right_head(count: u16, hashes: u8) -> [u8; 3]
     requires { ⌜ hashes < 16 ⌝ }
     ensures { λ r. ⌜ r ≡ countBytes count ++ ((16 * hashes) ∷ []) ⌝ }
 {
-    let high = bits::words::high_of(count);
-    let low = bits::words::low_of(count);
+    let high = words::high_of(count);
+    let low = words::low_of(count);
     let shifted = bits::fields::count_byte(hashes);
     [high, low, shifted]
 }
@@ -73,14 +73,14 @@ pub fn reply_right(reply: &mut [u8], slot: &[u8])
     ensures { λ _. ⌜ now (reply .exit) ≡ over (frame 3 0 (writeGiven (theRight (rightOf (now (slot .entry)))))) (now (reply .entry)) ⌝ }
 {
     let hashes = bits::fields::slot_hashes(slot[0]);
-    let count = bits::words::word_at(slot, 27);
-    let length = bits::words::word_at(slot, 29);
+    let count = words::word_at(slot, 27);
+    let length = words::word_at(slot, 29);
     let size = 20 * (hashes as u16);
     put_head(reply, 3, 0, 19 + size + length);
     put_key(reply, slot);
     let head = right_head(count, hashes);
-    octets::put::put_bytes(reply, 20, &head);
+    buffers::put_bytes(reply, 20, &head);
     let n = size as usize;
-    octets::put::put_part(reply, 23, slot, 31, n);
-    octets::put::put_part(reply, 23 + n, slot, 192, length as usize);
+    buffers::put_part(reply, 23, slot, 31, n);
+    buffers::put_part(reply, 23 + n, slot, 192, length as usize);
 }

@@ -44,7 +44,7 @@ fn right_in(f: &[u8]) -> Told
     let at = 23 + 20 * hashes;
     Told {
         answer: Answer::Right {
-            count: bits::words::word_at(f, 20),
+            count: words::word_at(f, 20),
             hashes: hashes,
             hashes_at: 23,
             payload_at: at,
@@ -112,7 +112,7 @@ fn info_in(f: &[u8]) -> Told
     ensures { λ r. ⌜ r ≡ infoIn (now (f .entry)) ⌝ }
 {
     without_key(Answer::Counted {
-        count: bits::words::word_at(f, 4),
+        count: words::word_at(f, 4),
         payload_at: 6,
         payload_length: f.len() - 6,
     })

@@ -23,7 +23,7 @@ pub fn is_reply(f: &[u8]) -> bool
     if f.len() < 4 {
         return false;
     }
-    let n = wide16(bits::words::word_at(f, 2));
+    let n = wide16(words::word_at(f, 2));
     (f.len() == 4 + n) & (bits::fields::frame_version(f[0]) == 1)
 }
 

@@ -5,8 +5,8 @@ use mathlib.Core.List.{[], _∷_, _++_, append-assoc}
 use native.Mathlib.Omega.{arith}
 use lib.ListN.{length, length-append}
 use borrow.Author.Tests.{lt-ltb, le-ltb}
-use Rattle.octets.specs.Over.{overAt}
-use Rattle.octets.proofs.Overlays.{over-start, over-more}
+use Rattle.buffers.specs.Over.{overAt}
+use Rattle.buffers.proofs.Overlays.{over-start, over-more}
 use Rattle.profile.specs.Bytes.{Bytes, word-bytes, over}
 use Rattle.profile.specs.Frame.{frame}
 use Rattle.profile.specs.Device.{put}

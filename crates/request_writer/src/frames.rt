@@ -3,7 +3,7 @@ ghost use mathlib.Core.Path.{_≡_};
 ghost use mathlib.Core.List.{_∷_, [], _++_};
 ghost use Prim.Native.Nat.{_≤_, _<_};
 ghost use lib.ListN.{length};
-ghost use Rattle.octets.specs.Over.{overAt};
+ghost use Rattle.buffers.specs.Over.{overAt};
 ghost use Rattle.profile.specs.Bytes.{word-bytes};
 ghost use Rattle.profile.specs.Frame.{frame};
 ghost use Rattle.profile.specs.Device.{put};
@@ -15,17 +15,17 @@ fn put_handle(out: &mut [u8], kind: u8, n: u16, handle: [u8; 10])
     requires { ⌜ (kind < 32) × (14 ≤ length (now out)) ⌝ }
     ensures { λ _. ⌜ now (out .exit) ≡ overAt 0 (started kind n handle) (now (out .entry)) ⌝ }
 {
-    let head = octets::put::frame_start(kind, 128, n);
-    octets::put::put_bytes(out, 0, &head);
-    octets::put::put_bytes(out, 4, &handle);
+    let head = buffers::frame_start(kind, 128, n);
+    buffers::put_bytes(out, 0, &head);
+    buffers::put_bytes(out, 4, &handle);
 }
 
 // A number of 16 bits and a hash count, as they stand in front of the hashes of kinds 2 and 8.
 fn counted(word: u16, hashes: u8) -> [u8; 3]
     ensures { λ r. ⌜ r ≡ word-bytes word ++ (hashes ∷ []) ⌝ }
 {
-    let high = bits::words::high_of(word);
-    let low = bits::words::low_of(word);
+    let high = words::high_of(word);
+    let low = words::low_of(word);
     [high, low, hashes]
 }
 
@@ -50,7 +50,7 @@ pub fn write_two(out: &mut [u8], kind: u8, handle: [u8; 10], new: [u8; 10]) -> u
         return 201;
     }
     put_handle(out, kind, 20, handle);
-    octets::put::put_bytes(out, 14, &new);
+    buffers::put_bytes(out, 14, &new);
     0
 }
 
@@ -63,7 +63,7 @@ pub fn write_word(out: &mut [u8], kind: u8, handle: [u8; 10], word: u16) -> u16
         return 201;
     }
     put_handle(out, kind, 12, handle);
-    octets::put::put_word(out, 14, word);
+    buffers::put_word(out, 14, word);
     0
 }
 
@@ -76,11 +76,11 @@ pub fn write_hashes(out: &mut [u8], limit: u16, n: u8, hashes: &[u8]) -> u16
     if out.len() < 4 + size {
         return 201;
     }
-    let head = octets::put::frame_start(8, 128, size as u16);
-    octets::put::put_bytes(out, 0, &head);
+    let head = buffers::frame_start(8, 128, size as u16);
+    buffers::put_bytes(out, 0, &head);
     let three = counted(limit, n);
-    octets::put::put_bytes(out, 4, &three);
-    octets::put::put_bytes(out, 7, hashes);
+    buffers::put_bytes(out, 4, &three);
+    buffers::put_bytes(out, 7, hashes);
     0
 }
 
@@ -90,9 +90,9 @@ fn put_right(out: &mut [u8], size: u16, handle: [u8; 10], key: [u8; 16], count: 
     ensures { λ _. ⌜ now (out .exit) ≡ overAt 0 (started 2 size (handle ++ key ++ (word-bytes count ++ (n ∷ [])))) (now (out .entry)) ⌝ }
 {
     put_handle(out, 2, size, handle);
-    octets::put::put_bytes(out, 14, &key);
+    buffers::put_bytes(out, 14, &key);
     let three = counted(count, n);
-    octets::put::put_bytes(out, 30, &three);
+    buffers::put_bytes(out, 30, &three);
 }
 
 // "handle, key, count 16 bits, hash count 4 bits, 4 zero bits, hashes, payload", with n hashes.
@@ -115,7 +115,7 @@ pub fn write_right(out: &mut [u8], p: Plain, n: u8, hashes: &[u8], payload: &[u8
         p.count,
         bits::fields::count_byte(n),
     );
-    octets::put::put_bytes(out, 33, hashes);
-    octets::put::put_bytes(out, behind, payload);
+    buffers::put_bytes(out, 33, hashes);
+    buffers::put_bytes(out, behind, payload);
     0
 }

@@ -20,14 +20,14 @@ pub struct Plain {
 fn zero_handle(h: [u8; 10]) -> bool
     ensures { λ r. ⌜ r ≡ allZero h ⌝ }
 {
-    octets::zero::all_zero(&h)
+    zeros::all_zero(&h)
 }
 
 // Whether a key that the kind lacks is zero.
 fn zero_key(k: [u8; 16]) -> bool
     ensures { λ r. ⌜ r ≡ allZero k ⌝ }
 {
-    octets::zero::all_zero(&k)
+    zeros::all_zero(&k)
 }
 
 // Whether hashes or a payload that the kind lacks are empty.

@@ -123,7 +123,7 @@ pub fn with_right(f: &[u8], hashes: usize, payload: usize) -> Asked
     let handle = octets::arrays::handle_at(f, 4);
     let new = no_handle();
     let key = octets::arrays::key_at(f, 14);
-    let count = bits::words::word_at(f, 30);
+    let count = words::word_at(f, 30);
     Asked {
         ask: Ask::Yes(Body::Install {
             count: count,
@@ -145,7 +145,7 @@ pub fn with_hashes(f: &[u8], hashes: usize) -> Asked
     let handle = no_handle();
     let new = no_handle();
     let key = no_key();
-    let limit = bits::words::word_at(f, 4);
+    let limit = words::word_at(f, 4);
     Asked {
         ask: Ask::Yes(Body::List {
             limit: limit,

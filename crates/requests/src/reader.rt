@@ -65,7 +65,7 @@ fn read_setup(f: &[u8], n: usize, verdict: u8) -> Asked
     if verdict == 0 {
         return crate::asked::refuse(Why::Integrity);
     }
-    let length = bits::words::word_at(f, 14);
+    let length = words::word_at(f, 14);
     crate::asked::with_handle(f, Body::Setup { length: length })
 }
 
@@ -80,7 +80,7 @@ fn read_enable(f: &[u8], n: usize, verdict: u8) -> Asked
     if verdict == 0 {
         return crate::asked::refuse(Why::Integrity);
     }
-    let count = bits::words::word_at(f, 14);
+    let count = words::word_at(f, 14);
     crate::asked::with_handle(f, Body::Enable { count: count })
 }
 
@@ -165,7 +165,7 @@ fn read_frame(f: &[u8]) -> Asked
     if f.len() < 4 {
         return crate::asked::refuse(Why::NoFrame);
     }
-    let n = wide_word(bits::words::word_at(f, 2));
+    let n = wide_word(words::word_at(f, 2));
     if f.len() != 4 + n {
         return crate::asked::refuse(Why::NoFrame);
     }

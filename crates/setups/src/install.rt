@@ -25,7 +25,7 @@ pub fn install(
     match decisions::decision::slot_under(table, h, AWAITED) {
         Decision::Refuse(status) => replies::writer::reply_status(reply, 2, status),
         Decision::Change(i, _) => {
-            let room = bits::words::word_at(tables::part::slot_at(table, i), 29) as usize;
+            let room = words::word_at(tables::part::slot_at(table, i), 29) as usize;
             if room < size {
                 replies::writer::reply_status(reply, 2, 7);
                 return;

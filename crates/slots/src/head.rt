@@ -19,7 +19,7 @@ pub fn head_of(s: &[u8]) -> Head
     Head {
         place: crate::place::place_of(s),
         hashes: bits::fields::slot_hashes(s[0]) as usize,
-        count: bits::words::word_at(s, 27),
-        length: bits::words::word_at(s, 29) as usize,
+        count: words::word_at(s, 27),
+        length: words::word_at(s, 29) as usize,
     }
 }

@@ -22,8 +22,8 @@ fn well_taken(s: &[u8], head: Head) -> bool
         return false;
     }
     let spare = bits::fields::slot_spare(s[0]);
-    let gap = octets::zero::zero_part(s, 31 + 20 * hashes, 191);
-    let rest = octets::zero::zero_part(s, 192 + length, 4288);
+    let gap = zeros::zero_part(s, 31 + 20 * hashes, 191);
+    let rest = zeros::zero_part(s, 192 + length, 4288);
     (spare == 0) & (s[191] == 0) & gap & rest & (0 < length)
 }
 
@@ -36,10 +36,10 @@ pub fn well_slot(s: &[u8]) -> bool
     let place = head.place;
     let hashes = head.hashes;
     match place {
-        Place::Empty => octets::zero::all_zero(s),
+        Place::Empty => zeros::all_zero(s),
         Place::Reserved => {
-            let no_key = octets::zero::zero_part(s, 11, 29);
-            let no_payload = octets::zero::zero_part(s, 192, 4288);
+            let no_key = zeros::zero_part(s, 11, 29);
+            let no_payload = zeros::zero_part(s, 192, 4288);
             let taken = well_taken(s, head);
             taken & (hashes == 0) & no_key & no_payload
         }

@@ -3,7 +3,7 @@ use denote.Ref.{now}
 use mathlib.Core.Path.{ap, _∙_}
 use mathlib.Core.List.{[], _∷_}
 use Prim.Native.Nat.{ℕ}
-use Rattle.octets.specs.Over.{overAt}
+use Rattle.buffers.specs.Over.{overAt}
 use Rattle.changes.proofs.OverFields.{over-byte}
 use borrow.Author.Needs.{needs}
 use Rattle.changes.proofs.fields.put_place.Statement.{statement}

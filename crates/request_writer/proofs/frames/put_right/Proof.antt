@@ -5,7 +5,7 @@ use native.Mathlib.Omega.{arith}
 use lib.ListN.{length, length-append}
 use denote.Ref.{now}
 use Rattle.request_writer.proofs.FrameParts.{then-part}
-use Rattle.octets.specs.Over.{overAt}
+use Rattle.buffers.specs.Over.{overAt}
 use Rattle.profile.specs.Bytes.{Bytes, word-bytes}
 use borrow.Author.Needs.{needs}
 use Rattle.request_writer.proofs.frames.put_right.Statement.{statement}

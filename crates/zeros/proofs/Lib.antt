@@ -1,0 +1,2 @@
+pub mod ZeroBytes
+pub mod Filling

@@ -1,0 +1,52 @@
+// Zero bytes: tested, as the unused bytes of a well-formed slot are, and written, where a slot is cleared.
+ghost use mathlib.Core.Path.{_≡_};
+ghost use Prim.Native.Nat.{_-_, _≤_};
+ghost use lib.ListN.{length};
+ghost use Rattle.profile.specs.Bytes.{part, allZero, zeros};
+
+// Every byte is read, with no exit between, so that the loop becomes vector code.
+fn zero_block(s: &[u8]) -> bool
+    ensures { λ r. ⌜ r ≡ allZero (now (s .entry)) ⌝ }
+{
+    let mut acc: u8 = 0;
+    let mut i = 0;
+    while i < s.len() {
+        acc = acc | s[i];
+        i += 1;
+    }
+    acc == 0
+}
+
+// "Empty: all 4,288 bytes are 0." Blocks of 256 bytes, and an exit behind each that has a byte other than 0.
+pub fn all_zero(s: &[u8]) -> bool
+    ensures { λ r. ⌜ r ≡ allZero (now (s .entry)) ⌝ }
+{
+    let mut at = 0;
+    while 256 <= s.len() - at {
+        let e = at + 256;
+        if !zero_block(&s[at..e]) {
+            return false;
+        }
+        at = e;
+    }
+    zero_block(&s[at..])
+}
+
+// "hash bytes beyond the count and payload bytes beyond the length are 0": a part of a slot.
+pub fn zero_part(s: &[u8], from: usize, to: usize) -> bool
+    requires { ⌜ (from ≤ to) × (to ≤ length (now s)) ⌝ }
+    ensures { λ r. ⌜ r ≡ allZero (part from (to - from) (now (s .entry))) ⌝ }
+{
+    all_zero(&s[from..to])
+}
+
+// "All bytes of the slot become 0": all of what is lent.
+pub fn clear(d: &mut [u8])
+    ensures { λ _. ⌜ now (d .exit) ≡ zeros (length (now (d .entry))) ⌝ }
+{
+    let mut i = 0;
+    while i < d.len() {
+        d[i] = 0;
+        i += 1;
+    }
+}
