@@ -36,19 +36,27 @@ parts-written k v n m a b d e f h =
     ∙ body-written k v n (a ++ b) d (length-append a b ∙ f) h
 
 module _ (s d : Bytes) (len-s : length s ≡ 4288) where
-  pub key-written : 20 ≤ length d → overAt 4 (part 11 16 s) (overAt 0 (headOf 4 0 16) d) ≡ over (frame 4 0 (writeGiven (theKey (rightOf s .key)))) d
+  key-written : 20 ≤ length d → overAt 4 (part 11 16 s) (overAt 0 (headOf 4 0 16) d) ≡ over (frame 4 0 (writeGiven (theKey (rightOf s .key)))) d
   key-written h = body-written 4 0 16 (part 11 16 s) d (length-part 11 16 s (omega arith)) h
+
+  -- the same, step by step
+  pub key-steps : {d₁ d₂ : Bytes} → d₁ ≡ overAt 0 (headOf 4 0 16) d → d₂ ≡ overAt 4 (part 11 16 s) d₁ → 20 ≤ length d → d₂ ≡ over (frame 4 0 (writeGiven (theKey (rightOf s .key)))) d
+  key-steps e₁ e₂ h = rw (e₂, e₁) (key-written h)
 
   module _ (short : word 29 s ≤ 4096) where
     payload-length : length (part 192 (word 29 s) s) ≡ word 29 s
     payload-length = length-part 192 (word 29 s) s (omega arith)
 
-    pub info-written : 4102 ≤ length d
+    info-written : 4102 ≤ length d
         → overAt 6 (part 192 (word 29 s) s) (overAt 4 (word-bytes (word 27 s)) (overAt 0 (headOf 9 0 (2 + word 29 s)) d))
         ≡ over (frame 9 0 (writeGiven (infoOf (rightOf s)))) d
     info-written h =
         let p = payload-length in
         parts-written 9 0 (2 + word 29 s) 6 (word-bytes (word 27 s)) (part 192 (word 29 s) s) d refl (omega arith) (omega arith)
+
+    pub info-steps : {c l : ℕ} {d₁ d₂ d₃ : Bytes} → c ≡ word 27 s → l ≡ word 29 s → d₁ ≡ overAt 0 (headOf 9 0 (2 + l)) d → d₂ ≡ overAt 4 (word-bytes c) d₁ → d₃ ≡ overAt 6 (part 192 l s) d₂
+        → 4102 ≤ length d → d₃ ≡ over (frame 9 0 (writeGiven (infoOf (rightOf s)))) d
+    info-steps ec el e₁ e₂ e₃ h = rw (e₃, e₂, e₁, ec, el) (info-written h)
 
     module _ (few : hashCountOf s ≤ 8) where
       -- the slot's fields: the key; count and hash count; the hashes

@@ -65,6 +65,10 @@ list-closed hs n b each count fits more t p q =
     says = omega (arith, size hs n b each count fits)
 
 -- the head of a list is written in two parts
-pub start-written : (n : ℕ) (more : Bool) (d : Bytes) → 5 ≤ length d → overAt 4 ((if more then 128 else 0) ∷ []) (overAt 0 (headOf 8 0 (1 + 10 * n)) d) ≡ over (listStart n more) d
+start-written : (n : ℕ) (more : Bool) (d : Bytes) → 5 ≤ length d → overAt 4 ((if more then 128 else 0) ∷ []) (overAt 0 (headOf 8 0 (1 + 10 * n)) d) ≡ over (listStart n more) d
 unfolding listStart
 start-written n more d h = over-more (headOf 8 0 (1 + 10 * n)) ((if more then 128 else 0) ∷ []) d 0 4 refl h ∙ over-start (headOf 8 0 (1 + 10 * n) ++ ((if more then 128 else 0) ∷ [])) d
+
+-- the same, step by step
+pub start-steps : (n : ℕ) (more : Bool) (d : Bytes) {h d₁ d₂ : Bytes} {f : ℕ} → h ≡ headOf 8 0 (1 + 10 * n) → f ≡ (if more then 128 else 0) → d₁ ≡ overAt 0 h d → d₂ ≡ overAt 4 (f ∷ []) d₁ → 5 ≤ length d → d₂ ≡ over (listStart n more) d
+start-steps n more d eh ef e₁ e₂ l = rw (e₂, e₁, eh, ef) (start-written n more d l)

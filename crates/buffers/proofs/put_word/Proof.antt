@@ -18,7 +18,7 @@ same-length : tie.Need-same-length
 same-length c = search needs
 
 returns : tie.Need-returns
-returns c = cc
+returns c = rw (c .before .before .put-bytes .ensures, c .before .before .before .before .before .bytes-of .ensures)
 
 pub put-word-spec : {M : Type 1} → statement M
 put-word-spec =

@@ -17,7 +17,7 @@ same-length : tie.Need-same-length
 same-length c = search needs
 
 returns : tie.Need-returns
-returns c = cc
+returns c = rw (c .before .before .put-part2 .ensures, c .before .before .before .before .before .before .put-part .ensures)
 
 pub put-content-spec : {M : Type 1} → statement M
 put-content-spec =

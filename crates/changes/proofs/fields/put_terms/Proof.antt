@@ -20,7 +20,7 @@ same-length : tie.Need-same-length
 same-length c = search needs
 
 returns : tie.Need-returns
-returns c = cc
+returns c = rw (c .before .before .put-word2 .ensures, c .before .before .before .before .before .before .put-word .ensures, c .before .before .before .before .before .before .before .before .before .before .put-bytes .ensures)
 
 pub put-terms-spec : {M : Type 1} → statement M
 put-terms-spec =

@@ -1,6 +1,6 @@
 -- `replies::list::close_list` meets its contract: a head, and the byte behind it. Assumes nothing.
 use denote.Ref.{now}
-use Rattle.replies.proofs.Growing.{start-written}
+use Rattle.replies.proofs.Growing.{start-steps}
 use borrow.Author.Needs.{needs}
 use Rattle.replies.proofs.list.close_list.Statement.{statement}
 use Rattle.replies.proofs.list.close_list.Tie as tie
@@ -39,7 +39,7 @@ returns : tie.Need-returns
 returns c =
     let start = c .before .before .before .before .before .before .before .before .before .before .before .before .before in
     let a = start .args in
-    cc (start-written (a .n) (a .more) (now (a .reply)) (start .pre .1))
+    start-steps (a .n) (a .more) (now (a .reply)) (c .before .before .before .before .before .before .before .before .before .before .before .frame-start .ensures) (c .before .before .before .before .before .flag-byte .ensures) (c .before .before .before .before .before .before .before .before .put-bytes .ensures) (c .before .before .put-bytes2 .ensures) (start .pre .1)
 
 pub close-list-spec : {M : Type 1} → statement M
 close-list-spec =

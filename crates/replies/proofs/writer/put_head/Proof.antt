@@ -1,4 +1,8 @@
 -- `replies::writer::put_head` meets its contract. Assumes nothing.
+use denote.Ref.{now}
+use mathlib.Core.Path.{ap, _∙_}
+use Rattle.profile.specs.Bytes.{Bytes}
+use Rattle.buffers.specs.Over.{overAt}
 use borrow.Author.Needs.{needs}
 use Rattle.replies.proofs.writer.put_head.Statement.{statement}
 use Rattle.replies.proofs.writer.put_head.Tie as tie
@@ -16,7 +20,9 @@ same-length : tie.Need-same-length
 same-length c = search needs
 
 returns : tie.Need-returns
-returns c = cc
+returns c =
+    let d = now (c .before .before .before .before .before .before .before .args .reply) in
+    c .before .before .put-bytes .ensures ∙ ap (λ (x : Bytes). overAt 0 x d) (c .before .before .before .before .before .frame-start .ensures)
 
 pub put-head-spec : {M : Type 1} → statement M
 put-head-spec =

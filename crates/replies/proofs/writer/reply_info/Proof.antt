@@ -1,6 +1,6 @@
 -- `replies::writer::reply_info` meets its contract: a head, the count and the payload. Assumes nothing.
 use denote.Ref.{now}
-use Rattle.replies.proofs.Frames.{info-written}
+use Rattle.replies.proofs.Frames.{info-steps}
 use borrow.Author.Needs.{needs}
 use Rattle.replies.proofs.writer.reply_info.Statement.{statement}
 use Rattle.replies.proofs.writer.reply_info.Tie as tie
@@ -31,9 +31,14 @@ same-length c = search needs
 
 returns : tie.Need-returns
 returns c =
-    let start = c .before .before .before .before .before .before .before .before .before .before .before .before .before .before .before .before in
+    let last = c .before .before in
+    let counted = last .before .before .before .before in
+    let headed = counted .before .before .before .before in
+    let long = headed .before .before in
+    let start = long .before .before .before .before in
     let a = start .args in
-    cc (info-written (now (a .slot)) (now (a .reply)) (start .pre .1) (start .pre .2) (start .pre .0))
+    info-steps (now (a .slot)) (now (a .reply)) (start .pre .1) (start .pre .2)
+    (long .before .word-at .ensures) (long .word-at2 .ensures) (headed .put-head .ensures) (counted .put-word .ensures) (last .put-part .ensures) (start .pre .0)
 
 pub reply-info-spec : {M : Type 1} → statement M
 reply-info-spec =

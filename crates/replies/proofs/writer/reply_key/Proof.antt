@@ -1,6 +1,6 @@
 -- `replies::writer::reply_key` meets its contract: a head, and the key. Assumes nothing.
 use denote.Ref.{now}
-use Rattle.replies.proofs.Frames.{key-written}
+use Rattle.replies.proofs.Frames.{key-steps}
 use borrow.Author.Needs.{needs}
 use Rattle.replies.proofs.writer.reply_key.Statement.{statement}
 use Rattle.replies.proofs.writer.reply_key.Tie as tie
@@ -18,7 +18,7 @@ returns : tie.Need-returns
 returns c =
     let start = c .before .before .before .before .before .before .before .before .before .before in
     let a = start .args in
-    cc (key-written (now (a .slot)) (now (a .reply)) (start .pre .1) (start .pre .0))
+    key-steps (now (a .slot)) (now (a .reply)) (start .pre .1) (c .before .before .before .before .before .before .put-head .ensures) (c .before .before .put-key .ensures) (start .pre .0)
 
 pub reply-key-spec : {M : Type 1} → statement M
 reply-key-spec = tie.close (tie.spec put-head-requires put-key-requires same-length returns)

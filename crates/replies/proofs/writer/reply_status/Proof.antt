@@ -1,5 +1,6 @@
 -- `replies::writer::reply_status` meets its contract: a head alone. Assumes nothing.
 use denote.Ref.{now}
+use mathlib.Core.Path.{_∙_}
 use Rattle.replies.proofs.Frames.{head-written}
 use borrow.Author.Needs.{needs}
 use Rattle.replies.proofs.writer.reply_status.Statement.{statement}
@@ -14,7 +15,7 @@ same-length c = search needs
 returns : tie.Need-returns
 returns c =
     let a = c .before .before .before .before .before .args in
-    cc (head-written (a .kind) (a .status) (now (a .reply)))
+    c .before .before .put-head .ensures ∙ head-written (a .kind) (a .status) (now (a .reply))
 
 pub reply-status-spec : {M : Type 1} → statement M
 reply-status-spec = tie.close (tie.spec put-head-requires same-length returns)

@@ -13,7 +13,7 @@ count-byte-requires : tie.Need-count-byte-requires
 count-byte-requires c κs = search needs
 
 returns : tie.Need-returns
-returns c = cc
+returns c = rw (c .count-byte .ensures, c .before .low-of .ensures, c .before .before .high-of .ensures)
 
 pub right-head-spec : {M : Type 1} → statement M
 right-head-spec = tie.close (tie.spec high-of-requires low-of-requires count-byte-requires returns)

@@ -15,7 +15,7 @@ without-key-requires c κs = search needs
 
 returns : tie.Need-returns
 unfolding infoIn
-returns c = cc
+returns c = rw (c .without-key .ensures, c .before .word-at .ensures)
 
 pub info-in-spec : {M : Type 1} → statement M
 info-in-spec = tie.close (tie.spec word-at-requires sub-t4 without-key-requires returns)

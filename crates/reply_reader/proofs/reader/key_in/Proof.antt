@@ -9,7 +9,7 @@ key-at-requires c κs = search needs
 
 returns : tie.Need-returns
 unfolding keyIn
-returns c = cc
+returns c = rw (c .key-at .ensures)
 
 pub key-in-spec : {M : Type 1} → statement M
 key-in-spec = tie.close (tie.spec key-at-requires returns)

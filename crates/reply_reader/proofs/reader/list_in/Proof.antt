@@ -18,7 +18,7 @@ without-key-requires c κs = search needs
 
 returns : tie.Need-returns
 unfolding listIn
-returns c = cc
+returns c = rw (c .without-key .ensures, c .before .flag-of .ensures)
 
 pub list-in-spec : {M : Type 1} → statement M
 list-in-spec =

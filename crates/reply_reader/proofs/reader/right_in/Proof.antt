@@ -30,7 +30,7 @@ sub-t10 c = search needs
 
 returns : tie.Need-returns
 unfolding rightIn
-returns c = cc
+returns c = rw (c .word-at .ensures, c .before .wide8 .ensures, c .before .before .count-of .ensures, c .before .before .before .before .key-at .ensures)
 
 pub right-in-spec : {M : Type 1} → statement M
 right-in-spec =

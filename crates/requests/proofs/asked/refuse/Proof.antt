@@ -15,7 +15,7 @@ no-key-requires c κs = search needs
 
 returns : tie.Need-returns
 unfolding refusal
-returns c = cc
+returns c = rw (c .no-key .ensures, c .before .no-handle2 .ensures, c .before .before .no-handle .ensures)
 
 pub refuse-spec : {M : Type 1} → statement M
 refuse-spec = tie.close (tie.spec no-handle-requires no-handle-requires-2 no-key-requires returns)

@@ -15,7 +15,7 @@ no-key-requires c κs = search needs
 
 returns : tie.Need-returns
 unfolding oneHandle
-returns c = cc
+returns c = rw (c .no-key .ensures, c .before .no-handle .ensures, c .before .before .handle-at .ensures)
 
 pub with-handle-spec : {M : Type 1} → statement M
 with-handle-spec =

@@ -18,7 +18,7 @@ word-at-requires c κs = search needs
 
 returns : tie.Need-returns
 unfolding query
-returns c = cc
+returns c = rw (c .word-at .ensures, c .before .no-key .ensures, c .before .before .no-handle2 .ensures, c .before .before .before .no-handle .ensures)
 
 pub with-hashes-spec : {M : Type 1} → statement M
 with-hashes-spec =

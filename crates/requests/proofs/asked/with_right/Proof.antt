@@ -18,7 +18,7 @@ word-at-requires c κs = search needs
 
 returns : tie.Need-returns
 unfolding installation
-returns c = cc
+returns c = rw (c .word-at .ensures, c .before .key-at .ensures, c .before .before .no-handle .ensures, c .before .before .before .handle-at .ensures)
 
 pub with-right-spec : {M : Type 1} → statement M
 with-right-spec =

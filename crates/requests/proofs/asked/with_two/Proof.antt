@@ -15,7 +15,7 @@ no-key-requires c κs = search needs
 
 returns : tie.Need-returns
 unfolding twoHandles
-returns c = cc
+returns c = rw (c .no-key .ensures, c .before .handle-at2 .ensures, c .before .before .handle-at .ensures)
 
 pub with-two-spec : {M : Type 1} → statement M
 with-two-spec =
