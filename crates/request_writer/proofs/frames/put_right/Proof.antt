@@ -1,5 +1,5 @@
 -- `request_writer::frames::put_right` meets its contract: part behind part. Assumes nothing.
-use mathlib.Core.Path.{_≡_}
+use mathlib.Core.Path.{_≡_, ap, _∙_}
 use mathlib.Core.List.{[], _∷_, _++_}
 use native.Mathlib.Omega.{arith}
 use lib.ListN.{length, length-append}
@@ -41,7 +41,7 @@ returns c =
     let y₁ = c .before .before .before .before .before .before .before .before .before .before .before .before .before .put-handle .last .0 in
     let y₂ = c .before .before .before .before .before .before .before .before .put-bytes .last .0 in
     let y₃ = c .before .before .put-bytes2 .last .0 in
-    let e₃ : y₃ ≡ overAt 30 three y₂ = cc in
+    let e₃ : y₃ ≡ overAt 30 three y₂ = c .before .before .put-bytes2 .ensures ∙ ap (λ (x : Bytes). overAt 30 x y₂) (c .before .before .before .before .before .counted .ensures) in
     then-part 2 (a .size) (a .handle ++ a .t4) three (now (a .out)) y₂ y₃ 30 (rw length-append (omega arith)) (omega arith)
     (then-part 2 (a .size) (a .handle) (a .t4) (now (a .out)) y₁ y₂ 14 (omega arith) (omega arith) (c .before .before .before .before .before .before .before .before .before .before .before .before .before .put-handle .ensures) (c .before .before .before .before .before .before .before .before .put-bytes .ensures))
     e₃

@@ -1,5 +1,5 @@
 -- `request_writer::frames::write_hashes` meets its contract: part behind part. Assumes nothing.
-use mathlib.Core.Path.{_≡_}
+use mathlib.Core.Path.{_≡_, ap, _∙_}
 use mathlib.Core.List.{[], _∷_, _++_}
 use Prim.Native.Nat.{_+_}
 use native.Mathlib.Omega.{arith}
@@ -59,8 +59,8 @@ returns-2 c =
     let y₁ = c .before .before .before .before .before .before .before .before .before .before .before .before .put-bytes .last .0 in
     let y₂ = c .before .before .before .before .before .before .put-bytes2 .last .0 in
     let y₃ = c .before .before .put-bytes3 .last .0 in
-    let e₁ : y₁ ≡ overAt 0 (started 8 size []) (now (a .out)) = cc in
-    let e₂ : y₂ ≡ overAt 4 three y₁ = cc in
+    let e₁ : y₁ ≡ overAt 0 (started 8 size []) (now (a .out)) = c .before .before .before .before .before .before .before .before .before .before .before .before .put-bytes .ensures ∙ ap (λ (x : Bytes). overAt 0 x (now (a .out))) (c .before .before .before .before .before .before .before .before .before .before .before .before .before .before .before .frame-start .ensures) in
+    let e₂ : y₂ ≡ overAt 4 three y₁ = c .before .before .before .before .before .before .put-bytes2 .ensures ∙ ap (λ (x : Bytes). overAt 4 x y₁) (c .before .before .before .before .before .before .before .before .before .counted .ensures) in
     frame-whole 8 (word-bytes (a .limit) ++ (a .n ∷ now (a .hashes))) (now (a .out)) y₃ size (omega arith) (omega arith)
     (then-part 8 size three (now (a .hashes)) (now (a .out)) y₂ y₃ 7 (omega arith) (omega arith)
     (then-part 8 size [] three (now (a .out)) y₁ y₂ 4 (omega arith) (omega arith) e₁ e₂)

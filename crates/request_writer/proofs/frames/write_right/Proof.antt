@@ -1,7 +1,7 @@
 -- `request_writer::frames::write_right` meets its contract: part behind part. Assumes nothing.
 use mathlib.Core.Path.{_≡_, ap, _∙_}
 use mathlib.Core.List.{[], _∷_, _++_}
-use Prim.Native.Nat.{_+_, _*_, _-_}
+use Prim.Native.Nat.{ℕ, _+_, _*_, _-_}
 use native.Mathlib.Omega.{arith}
 use lib.ListN.{length, length-append}
 use denote.Ref.{now}
@@ -69,7 +69,7 @@ returns-2 c =
     let y₁ = c .before .before .before .before .before .before .before .before .before .before .put-right .last .0 in
     let y₂ = c .before .before .before .before .before .before .put-bytes .last .0 in
     let y₃ = c .before .before .put-bytes2 .last .0 in
-    let e₁ : y₁ ≡ overAt 0 (started 2 size head) d = cc in
+    let e₁ : y₁ ≡ overAt 0 (started 2 size head) d = c .before .before .before .before .before .before .before .before .before .before .put-right .ensures ∙ ap (λ (b : ℕ). overAt 0 (started 2 size (p .handle ++ p .key ++ (word-bytes (p .count) ++ (b ∷ [])))) d) (c .before .before .before .before .before .before .before .before .before .before .before .count-byte .ensures) in
     frame-whole 2 (rightBody p (a .n) x w) d y₃ size m (omega arith)
     (then-part 2 size (head ++ x) w d y₂ y₃ (33 + length x) (rw length-append (omega arith)) (omega arith)
     (then-part 2 size head x d y₁ y₂ 33 (omega arith) (omega arith) e₁ (c .before .before .before .before .before .before .put-bytes .ensures))
