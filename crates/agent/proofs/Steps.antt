@@ -1,21 +1,16 @@
 -- From the frame's reading to the profile's agent: one law for each step of the call.
-use Prim.Native.Nat.{ℕ, _+_, _≤_}
-use mathlib.Core.Path.{_≡_, refl, sym, ap, ap₂, _∙_}
-use mathlib.Core.List.{List, []}
-use mathlib.Core.Bool.{_&&_, not}
-use lib.Dec.{leb, eqb}
-use lib.ListN.{length}
-use Rattle.profile.specs.Bytes.{Bytes, if_then_else_, word, over}
+use Prim.Native.Nat.{ℕ}
+use mathlib.Core.Path.{_≡_, sym, ap, ap₂, _∙_}
+use mathlib.Core.List.{List}
+use Rattle.profile.specs.Bytes.{Bytes}
 use Rattle.profile.specs.Slot.{Slot}
 use Rattle.profile.specs.Table.{slotsOf}
-use Rattle.profile.specs.Frame.{kindNumber, frame, isFrame, versionHolds, kindOf, Refusal, parameter, code}
-use Rattle.profile.specs.Request.{Request, Read, asks, refused, noFrame, numberOf, zeroBits, readKind, readRequest}
-use Rattle.profile.specs.Agent.{Outcome, replyFrame, tableAfter, obey, lowestEmpty}
-use Rattle.profile.proofs.Logic.{and-parts, leb-le, if-else, not-false}
+use Rattle.profile.specs.Frame.{kindNumber}
+use Rattle.profile.specs.Request.{Request, Read, asks, numberOf, readRequest}
+use Rattle.profile.specs.Agent.{Outcome, tableAfter, obey, lowestEmpty}
 use Rattle.profile.proofs.Frames.{Reads, reads}
 use Rattle.profile.proofs.Requests.{kind-number}
 use Rattle.requests.specs.declared.asked.Why.{Why}
-use Rattle.requests.specs.declared.asked.Why.the-variants.{NoFrame}
 use Rattle.requests.specs.declared.asked.Body.{Body}
 use Rattle.requests.specs.declared.asked.Ask.the-variants.{No}
 use Rattle.requests.specs.declared.asked.Asked.{Asked}
@@ -23,38 +18,10 @@ use Rattle.requests.specs.Answer.{Answers, whyMeans, bodyMeans}
 use Rattle.requests.proofs.ByCase.{says-no, says-yes}
 use Rattle.decisions.specs.Serving.{Serves, answerTo}
 use Rattle.queries.specs.Query.{replyTo}
-use Rattle.agent.specs.Call.{outcome, whyOf, Refuses, Asks}
+use Rattle.refusals.specs.Refusing.{Refuses}
+use Rattle.agent.specs.Call.{outcome, whyOf, Asks}
 
 -- ---- a frame that is no request
--- only a frame of four bytes or more has a status
-abbrev LongWhereRefused : Bytes → Read → Type 0
-LongWhereRefused f (asks q) = Unit {0}
-LongWhereRefused f (refused x) = 4 ≤ length f
-LongWhereRefused f noFrame = Unit {0}
-
-long-any : (f : Bytes) → 4 ≤ length f → (r : Read) → LongWhereRefused f r
-long-any f h (asks q) = tt
-long-any f h (refused x) = h
-long-any f h noFrame = tt
-
-long-read : (f : Bytes) → LongWhereRefused f (readRequest f)
-unfolding readRequest
-long-read f =
-    if-else (LongWhereRefused f) (not (isFrame f)) tt λ a.
-    long-any f (leb-le 4 (length f) (and-parts (leb 4 (length f)) (eqb (length f) (4 + word 2 f)) (not-false (isFrame f) a) .0))
-    (if not (versionHolds f && zeroBits f) then refused parameter else readKind (kindOf (kindNumber f)) f)
-
-pub refused-long : (f : Bytes) (w : Why) (x : Refusal) → whyMeans w ≡ readRequest f → whyMeans w ≡ refused x → 4 ≤ length f
-refused-long f w x e d = rw (sym e ∙ d) at (long-read f)
-
-pub refuses-104 : (f buffer : Bytes) (w : Why) → w ≡ NoFrame → Refuses f w buffer 104 buffer
-refuses-104 f buffer w e = record { on-any = λ place t table. rw e refl }
-
-pub refuses-with : (f buffer : Bytes) (w : Why) (x : Refusal) (n : ℕ) (buffer' : Bytes) → whyMeans w ≡ refused x → n ≡ 0
-    → buffer' ≡ over (frame (kindNumber f) (code x) []) buffer → Refuses f w buffer n buffer'
-unfolding replyFrame
-refuses-with f buffer w x n buffer' d z e = record { on-any = λ place t table. rw (d, z, e) refl }
-
 pub why-means : (f : Bytes) (r : Asked) → Answers f r → (w x : Why) → r .ask ≡ No w → x ≡ whyOf (r .ask) → whyMeans x ≡ readRequest f
 why-means f r a w x e d = ap whyMeans (d ∙ ap whyOf e) ∙ sym (says-no f r a w e)
 

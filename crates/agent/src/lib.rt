@@ -4,24 +4,14 @@ use requests::asked::Asked;
 use requests::asked::Body;
 use requests::asked::Why;
 ghost use mathlib.Core.Path.{_≡_};
-ghost use mathlib.Core.List.{[]};
-ghost use Prim.Native.Nat.{_≤_};
 ghost use lib.ListN.{length};
-ghost use Rattle.profile.specs.Bytes.{over};
 ghost use Rattle.profile.specs.Table.{slotsOf};
-ghost use Rattle.profile.specs.Frame.{kindNumber, frame as frameOf};
+ghost use Rattle.profile.specs.Frame.{kindNumber};
 ghost use Rattle.profile.specs.Request.{readRequest};
 ghost use Rattle.profile.specs.Agent.{agent, obey, lowestEmpty};
-ghost use Rattle.requests.specs.Answer.{whyMeans, bodyMeans};
+ghost use Rattle.requests.specs.Answer.{bodyMeans};
 ghost use Rattle.decisions.specs.Serving.{Ready, Serves, answerTo};
-ghost use Rattle.agent.specs.Call.{outcome, callOf, whyOf, Refuses, Asks};
-
-// Statuses of a frame that is no request.
-const INTEGRITY: u8 = 1;
-
-const PARAMETER: u8 = 2;
-
-const UNSUPPORTED: u8 = 3;
+ghost use Rattle.agent.specs.Call.{outcome, callOf, whyOf, Asks};
 
 // Why an answer is no request.
 fn why_of(ask: Ask) -> Why
@@ -31,28 +21,6 @@ fn why_of(ask: Ask) -> Why
         return Why::NoFrame;
     };
     why
-}
-
-// A reply of the kind asked, with a status and no body; the number is 0.
-fn refuse_with(frame: &[u8], reply: &mut [u8], status: u8) -> u16
-    requires { ⌜ (4 ≤ length (now frame)) × (4279 ≤ length (now reply)) ⌝ }
-    ensures { λ r. ⌜ (r ≡ 0) × (now (reply .exit) ≡ over (frameOf (kindNumber (now (frame .entry))) status []) (now (reply .entry))) ⌝ }
-{
-    replies::writer::reply_status(reply, bits::fields::frame_kind(frame[0]), status);
-    0
-}
-
-// "exactly one refusal": 104, or a reply with status 1, 2 or 3. No table is looked at.
-fn refuse(frame: &[u8], reply: &mut [u8], why: Why) -> u16
-    requires { ⌜ (whyMeans why ≡ readRequest (now frame)) × (4279 ≤ length (now reply)) ⌝ }
-    ensures { λ r. ⌜ Refuses (now (frame .entry)) why (now (reply .entry)) r (now (reply .exit)) ⌝ }
-{
-    match why {
-        Why::NoFrame => 104,
-        Why::Integrity => refuse_with(frame, reply, INTEGRITY),
-        Why::Parameter => refuse_with(frame, reply, PARAMETER),
-        Why::Unsupported => refuse_with(frame, reply, UNSUPPORTED),
-    }
 }
 
 // What a request does, kind by kind.
@@ -96,7 +64,7 @@ fn answer(table: &mut [u8], frame: &[u8], reply: &mut [u8]) -> u16
     let asked = requests::reader::read_request(frame);
     let ask = asked.ask;
     let Ask::Yes(body) = ask else {
-        return refuse(frame, reply, why_of(ask));
+        return refusals::refuse(frame, reply, why_of(ask));
     };
     serve(table, frame, reply, asked, body);
     0

@@ -1,8 +1,8 @@
--- `agent::refuse_with` meets its contract. Assumes nothing.
+-- `refusals::refuse_with` meets its contract. Assumes nothing.
 use mathlib.Core.Path.{refl}
 use borrow.Author.Needs.{needs}
-use Rattle.agent.proofs.refuse_with.Statement.{statement}
-use Rattle.agent.proofs.refuse_with.Tie as tie
+use Rattle.refusals.proofs.refuse_with.Statement.{statement}
+use Rattle.refusals.proofs.refuse_with.Tie as tie
 
 shared-slice-read-frame-kind : tie.Need-shared-slice-read-frame-kind
 shared-slice-read-frame-kind c = search needs

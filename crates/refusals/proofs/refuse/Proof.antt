@@ -1,12 +1,12 @@
--- `agent::refuse` meets its contract: why a frame is no request fixes the number and the reply. Assumes nothing.
+-- `refusals::refuse` meets its contract: why a frame is no request fixes the number and the reply. Assumes nothing.
 use denote.Ref.{now}
 use mathlib.Core.Path.{ap}
 use borrow.Author.Needs.{needs}
 use Rattle.profile.specs.Frame.{integrity, parameter, unsupported}
 use Rattle.requests.specs.Answer.{whyMeans}
-use Rattle.agent.proofs.Steps.{refused-long, refuses-104, refuses-with}
-use Rattle.agent.proofs.refuse.Statement.{statement}
-use Rattle.agent.proofs.refuse.Tie as tie
+use Rattle.refusals.proofs.Refused.{refused-long, refuses-104, refuses-with}
+use Rattle.refusals.proofs.refuse.Statement.{statement}
+use Rattle.refusals.proofs.refuse.Tie as tie
 
 enum-told : tie.Need-enum-told
 enum-told c = search needs
