@@ -13,8 +13,8 @@ use Rattle.profile.specs.Bytes.{Bytes, over}
 use Rattle.profile.specs.Table.{slotsOf}
 use Rattle.profile.specs.Request.{list}
 use Rattle.profile.specs.Agent.{listed, fitting, act}
-use Rattle.replies.specs.Listed.{holding, listStart}
-use Rattle.replies.proofs.Growing.{list-closed}
+use Rattle.list_replies.specs.Listed.{holding, listStart}
+use Rattle.list_replies.proofs.Growing.{list-closed}
 use Rattle.decisions.specs.Serving.{Ready}
 use Rattle.queries.specs.Query.{replyTo, mostOf}
 use Rattle.queries.proofs.ListedSlots.{each-take, each-10, few-15}

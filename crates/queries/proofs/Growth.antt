@@ -15,8 +15,8 @@ use Rattle.profile.proofs.Logic.{if-cases}
 use Rattle.profile.proofs.Strings.{length-part}
 use Rattle.profile.proofs.WellFormed.{few-slots}
 use Rattle.buffers.specs.Over.{overAt}
-use Rattle.replies.specs.Listed.{holding}
-use Rattle.replies.proofs.Growing.{hold-none, hold-more}
+use Rattle.list_replies.specs.Listed.{holding}
+use Rattle.list_replies.proofs.Growing.{hold-none, hold-more}
 use Rattle.tables.proofs.SlotParts.{length-slots}
 use Rattle.slots.proofs.WellSlots.{few-hashes}
 use Rattle.tables.proofs.WellTables.{slot-well}

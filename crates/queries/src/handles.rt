@@ -7,7 +7,7 @@ ghost use Rattle.profile.specs.Bytes.{if_then_else_, part};
 ghost use Rattle.profile.specs.Table.{slotsOf};
 ghost use Rattle.profile.specs.Agent.{listed};
 ghost use Rattle.buffers.specs.Over.{overAt};
-ghost use Rattle.replies.specs.Listed.{holding};
+ghost use Rattle.list_replies.specs.Listed.{holding};
 ghost use Rattle.decisions.specs.Serving.{Ready};
 ghost use Rattle.queries.specs.Query.{mostOf};
 
@@ -27,7 +27,7 @@ fn put_next(reply: &mut [u8], slot: &[u8], k: usize, most: usize)
     ensures { λ _. ⌜ now (reply .exit) ≡ (if ltb k most then overAt (5 + 10 * k) (part 1 10 (now (slot .entry))) (now (reply .entry)) else now (reply .entry)) ⌝ }
 {
     if k < most {
-        replies::list::put_handle(reply, k, slot);
+        list_replies::put_handle(reply, k, slot);
     }
 }
 

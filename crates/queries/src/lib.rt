@@ -34,9 +34,9 @@ pub fn handle_list(
     let most = handles::most_handles(limit);
     let found = handles::put_handles(table, reply, query, hashes, most);
     if found <= most {
-        replies::list::close_list(reply, found, false);
+        list_replies::close_list(reply, found, false);
     } else {
-        replies::list::close_list(reply, most, true);
+        list_replies::close_list(reply, most, true);
     }
 }
 

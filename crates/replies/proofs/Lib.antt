@@ -1,3 +1,1 @@
 pub mod Frames
-pub mod Growing
-pub mod WellSlots

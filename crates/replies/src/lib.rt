@@ -1,3 +1,2 @@
 // The replies that the agent writes into a lent buffer.
 pub mod writer; // writer.rt: replies of one status, and the bodies of kinds 3, 4 and 9
-pub mod list; // list.rt: the body of kind 8, handle by handle

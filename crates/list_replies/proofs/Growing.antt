@@ -13,8 +13,8 @@ use Rattle.profile.specs.Agent.{handles, done, replyFrame}
 use Rattle.profile.proofs.Strings.{length-each}
 use Rattle.buffers.specs.Over.{overAt}
 use Rattle.buffers.proofs.Overlays.{over-start, over-length, over-more}
 use Rattle.replies.specs.Written.{headOf}
-use Rattle.replies.specs.Listed.{holding, listStart}
+use Rattle.list_replies.specs.Listed.{holding, listStart}
 
 -- ---- one handle more
 pub joined-snoc : (hs : List Bytes) (h : Bytes) → joined (hs ++ (h ∷ [])) ≡ joined hs ++ h

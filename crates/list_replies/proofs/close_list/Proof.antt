@@ -1,9 +1,9 @@
--- `replies::list::close_list` meets its contract: a head, and the byte behind it. Assumes nothing.
+-- `list_replies::close_list` meets its contract: a head, and the byte behind it. Assumes nothing.
 use denote.Ref.{now}
-use Rattle.replies.proofs.Growing.{start-steps}
+use Rattle.list_replies.proofs.Growing.{start-steps}
 use borrow.Author.Needs.{needs}
-use Rattle.replies.proofs.list.close_list.Statement.{statement}
-use Rattle.replies.proofs.list.close_list.Tie as tie
+use Rattle.list_replies.proofs.close_list.Statement.{statement}
+use Rattle.list_replies.proofs.close_list.Tie as tie
 
 mul-size : tie.Need-mul-size
 mul-size c = search needs

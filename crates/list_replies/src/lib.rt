@@ -4,7 +4,7 @@ ghost use Prim.Native.Nat.{_+_, _*_, _≤_};
 ghost use lib.ListN.{length};
 ghost use Rattle.profile.specs.Bytes.{part, over};
 ghost use Rattle.buffers.specs.Over.{overAt};
-ghost use Rattle.replies.specs.Listed.{listStart};
+ghost use Rattle.list_replies.specs.Listed.{listStart};
 
 // A slot's handle goes behind k others.
 pub fn put_handle(reply: &mut [u8], k: usize, slot: &[u8])
