@@ -1,7 +1,7 @@
 -- A reply frame, written part by part at the start of a buffer; and each frame as the reply of an answer. Assumes nothing.
 use mathlib.Core.Path.{_≡_, refl, sym, ap, _∙_}
 use mathlib.Core.List.{List, [], _∷_, _++_, append-assoc}
-use Prim.Native.Nat.{ℕ, _+_, _*_, _≤_}
+use Prim.Native.Nat.{ℕ, _+_, _*_, _/_, _%_, _≤_}
 use native.Mathlib.Omega.{arith}
 use lib.ListN.{length, drop, length-append}
 use Rattle.profile.specs.Bytes.{Bytes, part, word, word-bytes, over}
@@ -15,6 +15,10 @@ use Rattle.buffers.proofs.Overlays.{over-start, over-length, over-more}
 use Rattle.replies.specs.Written.{headOf, infoOf}
 
 -- ---- written part by part
+-- count and hash count, byte by byte
+pub terms-are : (count hashes : ℕ) {high low shifted : ℕ} → high ≡ count / 256 → low ≡ count % 256 → shifted ≡ 16 * hashes → (high ∷ low ∷ shifted ∷ []) ≡ countBytes count ++ ((16 * hashes) ∷ [])
+terms-are count hashes h l s = rw (h, l, s)
+
 -- a head alone
 pub head-written : (k v : ℕ) (d : Bytes) → overAt 0 (headOf k v 0) d ≡ over (frame k v []) d
 unfolding frame

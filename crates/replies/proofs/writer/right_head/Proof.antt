@@ -1,4 +1,5 @@
 -- `replies::writer::right_head` meets its contract. Assumes nothing.
+use Rattle.replies.proofs.Frames.{terms-are}
 use borrow.Author.Needs.{needs}
 use Rattle.replies.proofs.writer.right_head.Statement.{statement}
 use Rattle.replies.proofs.writer.right_head.Tie as tie
@@ -13,7 +14,9 @@ count-byte-requires : tie.Need-count-byte-requires
 count-byte-requires c κs = search needs
 
 returns : tie.Need-returns
-returns c = rw (c .count-byte .ensures, c .before .low-of .ensures, c .before .before .high-of .ensures)
+returns c =
+    let a = c .before .before .before .args in
+    terms-are (a .count) (a .hashes) (c .before .before .high-of .ensures) (c .before .low-of .ensures) (c .count-byte .ensures)
 
 pub right-head-spec : {M : Type 1} → statement M
 right-head-spec = tie.close (tie.spec high-of-requires low-of-requires count-byte-requires returns)
