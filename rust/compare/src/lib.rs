@@ -5,14 +5,14 @@
 //! that has the Rattle toolchain, under its emulator if need be. [`driver`]
 //! starts it and speaks with it; the tests make calls at random, give each to
 //! the archive and to the reference, and hold number, reply buffer and table
-//! of the one against those of the other.
+//! of the one against those of the other, and the table's listing too.
 //!
 //! | | |
 //! |---|---|
 //! | [`driver`] | the driver, and the commands that it takes |
 //! | [`rng`] | random numbers, from a seed that is printed |
 //! | [`frames`] | request frames at random, right and wrong ones |
-//! | [`tables`] | damaged tables, and reply buffers |
+//! | [`tables`] | damaged tables, and buffers for replies and listings |
 //! | [`pipeline`] | many commands on their way at once |
 //! | [`calls`] | many calls, made at random and checked |
 //! | [`device`] | requests written and replies read, at random |
