@@ -31,10 +31,10 @@ fn read<'a>(reader: HashReader<'a>) -> [u8; 20]
     nth_hash(reader.bytes, reader.at)
 }
 
-// The hash at a position of a slot's hash bytes, by a reader of them.
-pub(crate) fn hash_of(bytes: &[u8], at: usize) -> [u8; 20]
-    requires { ⌜ HashStands at (now bytes) ⌝ }
-    ensures { λ r. ⌜ r ≡ hashAt at (now (bytes .entry)) ⌝ }
+// Hash i of a slot's hash bytes, from 0, by a reader of them.
+pub(crate) fn hash_of(bytes: &[u8], i: usize) -> [u8; 20]
+    requires { ⌜ HashStands i (now bytes) ⌝ }
+    ensures { λ r. ⌜ r ≡ hashAt i (now (bytes .entry)) ⌝ }
 {
-    read(reader_at(bytes, at))
+    read(reader_at(bytes, i))
 }

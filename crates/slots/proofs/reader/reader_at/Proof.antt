@@ -34,7 +34,6 @@ use denote.Triple.Table.{entered}
 use denote.Triple.Walked.{says, Stays, stay-none, stay-none-slice, walkOf, goes-none, goes-none-slice, Walks, ends-at, walked, walk-meets}
 use denote.Exit.{yes}
 use Rattle.slots.specs.declared.reader.HashReader.{HashReader}
-use Rattle.slots.specs.Readers.{readerAt}
 use Rattle.slots.proofs.reader.HashReader as T
 use Rattle.slots.proofs.reader.HashReader.Laws as T′
 use Rattle.slots.proofs.reader.reader_at.Key.{name as #reader-at}
@@ -53,8 +52,9 @@ module _ {M : Type 1} (𝓤 : URA M) (H : Heap 𝓤) (A : Atoms 𝓤) (W : Given
   abbrev v : Val
   v = sliceVal (s .ptr) (length (s .now))
 
+  -- the reader that is made
   abbrev made : HashReader
-  made = readerAt s n
+  made = record { bytes = s; at = n }
 
   abbrev vals : List Val × (List Val × Unit {0})
   vals = (v ∷ [], (vint w64 n ∷ [], tt))
