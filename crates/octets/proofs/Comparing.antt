@@ -1,6 +1,6 @@
--- Two parts compared byte by byte, and hashes looked for among others. Assumes nothing.
-use mathlib.Core.Path.{_≡_, refl, sym, ap, _∙_}
-use mathlib.Core.Bool.{Bool, true, false, _||_, or-true}
+-- Two parts compared byte by byte, and one thing looked for among others. Assumes nothing.
+use mathlib.Core.Path.{_≡_, sym, ap, _∙_}
+use mathlib.Core.Bool.{Bool, true, false, or-true}
 use mathlib.Core.List.{List, [], _∷_}
 use Prim.Native.Nat.{ℕ, zero, suc, _+_, _<_, _≤_}
 use native.Mathlib.Nat.{not-suc-le-zero, le-of-suc-le-suc}
@@ -43,25 +43,3 @@ module _ {A : Type 0} (f : A → Bool) where
   any-found (x ∷ q) zero i d p h e = absurd (not-suc-le-zero p)
   any-found (x ∷ q) (suc n) zero d p h e = rw e
   any-found (x ∷ q) (suc n) (suc i) d p h e = rw (any-found q n i d (le-of-suc-le-suc p) (le-of-suc-le-suc h) e) (or-true (f x))
-
--- "some hash of the request": whether a hash of one list is in the other, asked from either side
-or-shuffle : (a b c d : Bool) → ((a || b) || (c || d)) ≡ ((a || c) || (b || d))
-or-shuffle true b c d = refl
-or-shuffle false true true d = refl
-or-shuffle false true false d = refl
-or-shuffle false false c d = refl
-
-module _ {A B : Type 0} (f : A → B → Bool) where
-  any-none : (ys : List B) → any (λ (y : B). false) ys ≡ false
-  any-none [] = refl
-  any-none (y ∷ ys) = any-none ys
-
-  any-or : (g h : B → Bool) (ys : List B) → (any g ys || any h ys) ≡ any (λ (y : B). g y || h y) ys
-  any-or g h [] = refl
-  any-or g h (y ∷ ys) =
-      or-shuffle (g y) (any g ys) (h y) (any h ys) ∙ ap (λ (b : Bool). (g y || h y) || b) (any-or g h ys)
-
-  pub any-swap : (xs : List A) (ys : List B) → any (λ (x : A). any (f x) ys) xs ≡ any (λ (y : B). any (λ (x : A). f x y) xs) ys
-  any-swap [] ys = sym (any-none ys)
-  any-swap (x ∷ xs) ys =
-      ap (λ (b : Bool). any (f x) ys || b) (any-swap xs ys) ∙ any-or (f x) (λ (y : B). any (λ (x : A). f x y) xs) ys

@@ -37,7 +37,7 @@ pub fn key_at(s: &[u8], at: usize) -> [u8; 16]
 }
 
 // One asset hash of 20 bytes (SHA-1).
-fn hash_at(s: &[u8], at: usize) -> [u8; 20]
+pub fn hash_at(s: &[u8], at: usize) -> [u8; 20]
     requires { ⌜ at + 20 ≤ length (now s) ⌝ }
     ensures { λ r. ⌜ r ≡ part at 20 (now (s .entry)) ⌝ }
 {

@@ -1,8 +1,8 @@
-// Handles and hashes compared where they stand, without a copy.
+// Bytes compared where they stand, without a copy.
 ghost use mathlib.Core.Path.{_≡_};
 ghost use Prim.Native.Nat.{_+_, _≤_};
-ghost use lib.ListN.{length, take};
-ghost use Rattle.profile.specs.Bytes.{part, same, any};
+ghost use lib.ListN.{length};
+ghost use Rattle.profile.specs.Bytes.{part, same};
 
 // The one comparing loop, which stops at the first byte that differs: two slots' handles are told apart by it in place.
 fn same_parts(s: &[u8], a: usize, t: &[u8], b: usize, n: usize) -> bool
@@ -25,27 +25,4 @@ pub fn same_from(a: &[u8], s: &[u8], at: usize) -> bool
     ensures { λ r. ⌜ r ≡ same (now (a .entry)) (part at (length (now (a .entry))) (now (s .entry))) ⌝ }
 {
     same_parts(a, 0, s, at, a.len())
-}
-
-// Whether a query's hash is the one that stands in a slot.
-fn same_hash_at(h: [u8; 20], s: &[u8], at: usize) -> bool
-    requires { ⌜ at + 20 ≤ length (now s) ⌝ }
-    ensures { λ r. ⌜ r ≡ same h (part at 20 (now (s .entry))) ⌝ }
-{
-    same_from(&h, s, at)
-}
-
-// Kind 8, "that have some hash of the request": whether one of a query's n hashes is the one that stands in a slot.
-pub fn any_hash_at(q: [[u8; 20]; 8], n: usize, s: &[u8], at: usize) -> bool
-    requires { ⌜ (n ≤ 8) × (at + 20 ≤ length (now s)) ⌝ }
-    ensures { λ r. ⌜ r ≡ any (λ x. same x (part at 20 (now (s .entry)))) (take n q) ⌝ }
-{
-    let mut k = 0;
-    while k < n {
-        if same_hash_at(q[k], s, at) {
-            return true;
-        }
-        k += 1;
-    }
-    false
 }

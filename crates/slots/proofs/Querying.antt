@@ -1,25 +1,49 @@
 -- The hashes of a record against those of a query. Assumes nothing.
 use Prim.Native.Nat.{ℕ, zero, suc, _+_, _*_, _≤_, _<_}
-use mathlib.Core.Path.{_≡_, refl}
+use mathlib.Core.Path.{_≡_, refl, sym, ap, _∙_}
 use mathlib.Core.List.{List, [], _∷_}
-use mathlib.Core.Bool.{Bool}
+use mathlib.Core.Bool.{Bool, false}
 use native.Mathlib.Nat.{not-suc-le-zero}
-use lib.ListN.{length, drop, drop-of-length-le}
-use Rattle.profile.specs.Bytes.{Bytes, part, same, any, if_then_else_}
+use native.Mathlib.Omega.{arith}
+use lib.ListN.{length, drop, length-drop, drop-of-length-le}
+use Rattle.profile.specs.Bytes.{Bytes, part, pieces, same, any, if_then_else_}
 use Rattle.profile.specs.Table.{placeOf, hashCountOf, rightOf, unpack}
 use Rattle.profile.specs.Agent.{listedSlot}
 use Rattle.profile.proofs.Strings.{length-pieces}
-use Rattle.octets.proofs.Parts.{part-drop}
-use Rattle.slots.proofs.Pieces.{pieces-step}
+use Rattle.octets.proofs.Parts.{part-all}
+use Rattle.slots.specs.Readers.{hashAt}
+use Rattle.slots.proofs.Pieces.{pieces-step, pieces-within}
 use Rattle.slots.proofs.Unpacking.{unpack-empty, unpack-reserved, unpack-enabled, unpack-disabled}
 
--- ---- the hashes of a slot, one after another
-module _ (s : Bytes) where
-  pub hashes-step : (i : ℕ) → i < hashCountOf s → drop i (rightOf s .hashes) ≡ part (31 + 20 * i) 20 s ∷ drop (i + 1) (rightOf s .hashes)
-  hashes-step i h = rw (← part-drop 31 (20 * i) 20 s) (pieces-step 20 (hashCountOf s) i (drop 31 s) h)
+-- ---- n hashes in some hash bytes, one after another
+module _ (bytes : Bytes) (n : ℕ) where
+  pub hashes-step : (i : ℕ) → i < n → drop i (pieces 20 n bytes) ≡ hashAt i bytes ∷ drop (i + 1) (pieces 20 n bytes)
+  unfolding hashAt
+  hashes-step i h = pieces-step 20 n i bytes h
 
-  pub hashes-end : (i : ℕ) → hashCountOf s ≤ i → drop i (rightOf s .hashes) ≡ []
-  hashes-end i h = drop-of-length-le (rightOf s .hashes) {i = i} (rw (length-pieces 20 (hashCountOf s) (drop 31 s)) h)
+  pub hashes-end : (i : ℕ) → n ≤ i → drop i (pieces 20 n bytes) ≡ []
+  hashes-end i h = drop-of-length-le (pieces 20 n bytes) {i = i} (rw (length-pieces 20 n bytes) h)
+
+-- what is found of a hash that was read, all of it compared, is so of the one that stands there
+pub hash-compared : (x hash : Bytes) (r : Bool) {there : Bytes} → length x ≡ 20 → length hash ≡ 20 → hash ≡ there
+    → r ≡ same x (part 0 (length x) hash) → same x there ≡ r
+hash-compared x hash r l k e f = sym (rw (l, ← k, part-all hash, e) at f)
+
+-- one of a query's hashes is one of these
+abbrev some : List Bytes → List Bytes → Bool
+some q hashes = any (λ (x : Bytes). any (same x) hashes) q
+
+none : (q : List Bytes) → some q [] ≡ false
+none [] = refl
+none (x ∷ q) = none q
+
+-- ---- the hashes of a slot, which stand in its bytes 31 to 190
+module _ (s : Bytes) (q : List Bytes) (n : ℕ) (e : n ≡ hashCountOf s) where
+  pub record-none : n ≡ 0 → false ≡ some q (rightOf s .hashes)
+  record-none z = sym (ap (some q) (ap (λ (m : ℕ). pieces 20 m (drop 31 s)) (sym e ∙ z)) ∙ none q)
+
+  pub record-some : (r : Bool) → length s ≡ 4288 → hashCountOf s ≤ 8 → r ≡ some q (pieces 20 n (part 31 160 s)) → r ≡ some q (rightOf s .hashes)
+  record-some r l h f = f ∙ ap (some q) (ap (λ (m : ℕ). pieces 20 m (part 31 160 s)) e ∙ pieces-within 20 (hashCountOf s) 160 (drop 31 s) (omega arith) (rw (length-drop 31 s) (omega arith)))
 
 -- ---- listed or not
 module _ (s : Bytes) where

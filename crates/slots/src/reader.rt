@@ -1,0 +1,40 @@
+// "a small reader holds the slot's hash bytes and a position": two thin functions over it and one with plain parameters above
+// them, each proved by hand. Whoever calls that one needs no reader.
+ghost use mathlib.Core.Path.{_≡_};
+ghost use Rattle.slots.specs.Readers.{hashAt, HashStands, readerAt, hashRead, Reads};
+
+struct HashReader<'a> {
+    bytes: &'a [u8],
+    at: usize, // which of the hashes, from 0
+}
+
+// The hash at a position of some hash bytes, by value.
+fn nth_hash(bytes: &[u8], at: usize) -> [u8; 20]
+    requires { ⌜ HashStands at (now bytes) ⌝ }
+    ensures { λ r. ⌜ r ≡ hashAt at (now (bytes .entry)) ⌝ }
+{
+    octets::arrays::hash_at(bytes, 20 * at)
+}
+
+// A reader of some hash bytes, at a position.
+fn reader_at<'a>(bytes: &'a [u8], at: usize) -> HashReader<'a>
+    ensures { λ r. ⌜ r ≡ readerAt (bytes .entry) at ⌝ }
+{
+    HashReader { bytes, at }
+}
+
+// The hash at the reader's position.
+fn read<'a>(reader: HashReader<'a>) -> [u8; 20]
+    requires { ⌜ Reads reader ⌝ }
+    ensures { λ r. ⌜ r ≡ hashRead (reader .entry) ⌝ }
+{
+    nth_hash(reader.bytes, reader.at)
+}
+
+// Hash i of a slot's hash bytes, from 0, by a reader of them.
+pub(crate) fn hash_of(bytes: &[u8], i: usize) -> [u8; 20]
+    requires { ⌜ HashStands i (now bytes) ⌝ }
+    ensures { λ r. ⌜ r ≡ hashAt i (now (bytes .entry)) ⌝ }
+{
+    read(reader_at(bytes, i))
+}
