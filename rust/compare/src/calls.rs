@@ -3,12 +3,12 @@
 //! Each call is handed to the driver and to the reference, and what the
 //! reference made of it is held against what the driver answers.
 
-use crate::driver::{Call, Same};
 use crate::frames::Asker;
 use crate::outcome::{Counts, Outcome};
 use crate::pipeline::{self, Giver};
-use crate::rng::Rng;
 use crate::tables::{blank, damaged, reply_buffer};
+use driver::{Call, Same};
+use random::Rng;
 use reference::ledger::{agrees, Ledger};
 use reference::{read_request, ReadRequest, MAX_SLOTS};
 use std::io::Result;

@@ -1,6 +1,6 @@
 //! Request frames at random, right and wrong ones.
 
-use crate::rng::Rng;
+use random::Rng;
 use reference::{Handle, HASH_BYTES};
 
 /// A hash.

@@ -1,6 +1,6 @@
 //! Damaged tables, and reply buffers.
 
-use crate::rng::Rng;
+use random::Rng;
 use reference::{MAX_SLOTS, REPLY_ROOM, SLOT_BYTES};
 
 /// A table of empty slots.
