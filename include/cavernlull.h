@@ -25,7 +25,8 @@ enum {
     CAVERNLULL_HANDLE_BYTES = 10,
     CAVERNLULL_KEY_BYTES = 16,
     CAVERNLULL_HASH_BYTES = 20,
-    CAVERNLULL_MOST_HASHES = 8
+    CAVERNLULL_MOST_HASHES = 8,
+    CAVERNLULL_LISTING_ROOM = 406 /* the longest listing */
 };
 
 /* Numbers that a function gives. Every number but 0 leaves all lent memory as it was. */
@@ -139,6 +140,18 @@ enum {
  *                            that is not 1 to 9 there is none)
  */
 uint16_t cavernlull_read_reply(const uint8_t *frame, size_t frame_length, uint8_t *key, uint16_t *fields);
+
+/* The listing of a table, as the program `cardlist` prints it: written at the start of `out`, which is 406 bytes. Gives its
+ * length; the buffer's bytes past it keep what they held. There is no zero byte behind it. Each line ends in a newline:
+ *
+ *   slot place hashes count length        the header
+ *   0 enabled 2 5 300                     a line for each slot; the place is empty, reserved, enabled or disabled
+ *
+ * A table that the agent would refuse has one line instead, which says with what:
+ *   refused 102                           the table is not 1 to 15 slots of 4,288 bytes
+ *   refused 103                           a slot is not well formed, or two records have one handle
+ */
+size_t cavernlull_list(const uint8_t *table, size_t table_length, uint8_t *out);
 
 #ifdef __cplusplus
 }

@@ -10,6 +10,7 @@
  *            new handle, key, hashes, payload, out
  *   r        strings frame, key, fields (20 bytes)               number, strings key and fields, as cavernlull_read_reply
  *                                                                left them
+ *   l        string out (406 bytes)                              number, string out, as cavernlull_list left it
  *
  * Every string is lent so that it ends where memory ends: one byte read or written behind it is a fault.
  * It ends with status 0 at the end of the input, and with 2 where the input is no command or too long.
@@ -176,6 +177,12 @@ static void read_reply(void) {
     give_string(fields);
 }
 
+static void list(void) {
+    struct lent out = take_array(&areas[0], CAVERNLULL_LISTING_ROOM);
+    give_number((uint32_t)cavernlull_list(table.at, table.length, out.at));
+    give_string(out);
+}
+
 static _Noreturn __attribute__((used)) void run(void) {
     wall_off(&table_area);
     for (size_t i = 0; i < sizeof areas / sizeof areas[0]; i++) wall_off(&areas[i]);
@@ -185,6 +192,7 @@ static _Noreturn __attribute__((used)) void run(void) {
         case 'c': call(); break;
         case 'w': write_request(); break;
         case 'r': read_reply(); break;
+        case 'l': list(); break;
         default: leave(2);
         }
     }

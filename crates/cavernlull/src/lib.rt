@@ -5,8 +5,11 @@ use request_writer::given::Plain;
 mod numbers;
 
 ghost use mathlib.Core.Path.{_≡_};
+ghost use lib.ListN.{length};
 ghost use Rattle.profile.specs.Agent.{agent as agentOf};
+ghost use Rattle.profile.specs.Bytes.{over};
 ghost use Rattle.profile.specs.Device.{write};
+ghost use Rattle.profile.specs.Listing.{listing};
 ghost use Rattle.agent.specs.Call.{outcome, callOf};
 ghost use Rattle.request_writer.specs.Writing.{wrote};
 ghost use Rattle.cavernlull.specs.Given.{fields as fieldsOf};
@@ -67,4 +70,12 @@ pub extern "C" fn cavernlull_read_reply(
         *fields = n;
     }
     number
+}
+
+// The listing of any bytes at all, at the start of the buffer; what is given is its length.
+#[no_mangle]
+pub extern "C" fn cavernlull_list(table: &[u8], out: &mut [u8; 406]) -> usize
+    ensures { λ r. ⌜ (r ≡ length (listing (now (table .entry)))) × (now (out .exit) ≡ over (listing (now (table .entry))) (now (out .entry))) ⌝ }
+{
+    listing::list(table, out)
 }

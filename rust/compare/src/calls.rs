@@ -1,13 +1,14 @@
 //! Calls made at random, and calls checked.
 //!
 //! Each call is handed to the driver and to the reference, and what the
-//! reference made of it is held against what the driver answers.
+//! reference made of it is held against what the driver answers; so is the
+//! listing of the table after each call.
 
 use crate::frames::Asker;
 use crate::outcome::{Counts, Outcome};
 use crate::pipeline::{self, Giver};
-use crate::tables::{blank, damaged, reply_buffer};
-use driver::{Call, Same};
+use crate::tables::{blank, damaged, listing_buffer, reply_buffer};
+use driver::{Call, Listed, Same};
 use random::Rng;
 use reference::ledger::{agrees, Ledger};
 use reference::{read_request, ReadRequest, MAX_SLOTS};
@@ -32,6 +33,7 @@ struct Expected {
     history: History,
     frame: Vec<u8>,
     call: Call,
+    listed: Listed,
 }
 
 /// Makes at least so many calls, on tables of 1 to 15 slots in turn, and
@@ -52,7 +54,7 @@ pub fn compare(mut rng: Rng, calls: u64) -> Counts {
             }
             Ok(())
         },
-        |answers, expected| checker.check(&answers.call(), &expected),
+        |answers, expected| checker.check(&answers.call(), &answers.listed(), &expected),
     );
     checker.counts
 }
@@ -82,7 +84,8 @@ fn sequence(giver: &mut Giver<Expected>, rng: &mut Rng, slots: usize) -> Result<
     Ok(made)
 }
 
-/// Makes one call on the table lent to the driver and on its equal.
+/// Makes one call on the table lent to the driver and on its equal, and lists
+/// the table that it left.
 fn call(
     giver: &mut Giver<Expected>,
     rng: &mut Rng,
@@ -99,10 +102,16 @@ fn call(
         reply,
         table: table.to_vec(),
     };
+    let mut out = listing_buffer(rng);
+    giver.commands.list(&out)?;
+    let listing = reference::listing(table);
+    out[..listing.len()].copy_from_slice(&listing);
+    let length = u16::try_from(listing.len()).expect("no listing is so long");
     giver.expect(Expected {
         history,
         frame,
         call,
+        listed: Listed { length, out },
     })
 }
 
@@ -115,12 +124,15 @@ struct Checker {
 }
 
 impl Checker {
-    fn check(&mut self, given: &Call, expected: &Expected) {
-        let same = given.same_as(&expected.call).and_then(|()| {
-            let outcome = Outcome::of(given.number, &given.reply);
-            *self.counts.entry(outcome).or_default() += 1;
-            self.follow(expected, outcome, &given.table)
-        });
+    fn check(&mut self, given: &Call, listed: &Listed, expected: &Expected) {
+        let same = given
+            .same_as(&expected.call)
+            .and_then(|()| listed.same_as(&expected.listed))
+            .and_then(|()| {
+                let outcome = Outcome::of(given.number, &given.reply);
+                *self.counts.entry(outcome).or_default() += 1;
+                self.follow(expected, outcome, &given.table)
+            });
         if let Err(difference) = same {
             panic!(
                 "call {}, {}: {difference}",

@@ -2,12 +2,13 @@
 //!
 //! The archive is called by a small C program, the [`driver`]. The tests make
 //! calls at random, give each to the archive and to the reference, and hold
-//! number, reply buffer and table of the one against those of the other.
+//! number, reply buffer and table of the one against those of the other, and
+//! the table's listing too.
 //!
 //! | | |
 //! |---|---|
 //! | [`frames`] | request frames at random, right and wrong ones |
-//! | [`tables`] | damaged tables, and reply buffers |
+//! | [`tables`] | damaged tables, and buffers for replies and listings |
 //! | [`pipeline`] | many commands on their way at once |
 //! | [`calls`] | many calls, made at random and checked |
 //! | [`device`] | requests written and replies read, at random |

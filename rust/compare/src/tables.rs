@@ -1,7 +1,10 @@
-//! Damaged tables, and reply buffers.
+//! Damaged tables, and buffers for replies and listings.
 
 use random::Rng;
 use reference::{MAX_SLOTS, REPLY_ROOM, SLOT_BYTES};
+
+/// Room for the longest listing: a header of 31 bytes, and 15 lines of 25.
+const LISTING_ROOM: usize = 406;
 
 /// A table of empty slots.
 pub fn blank(slots: usize) -> Vec<u8> {
@@ -75,6 +78,15 @@ pub fn reply_buffer(rng: &mut Rng) -> Vec<u8> {
         1..10 => REPLY_ROOM,
         _ => rng.pick(&[REPLY_ROOM + 1, REPLY_ROOM + 2, REPLY_ROOM + 40]),
     };
+    patterned(rng, room)
+}
+
+/// A buffer for a listing, no two neighbours of which are equal.
+pub fn listing_buffer(rng: &mut Rng) -> Vec<u8> {
+    patterned(rng, LISTING_ROOM)
+}
+
+fn patterned(rng: &mut Rng, room: usize) -> Vec<u8> {
     let first = rng.below(256);
     (0..room).map(|i| (first + i * 29) as u8).collect()
 }

@@ -134,6 +134,16 @@ impl Commands {
         self.string(&numbers.map(u16::to_le_bytes).concat())
     }
 
+    /// Has `cavernlull_list` called on the table; the answer is a [`Listed`].
+    ///
+    /// # Errors
+    ///
+    /// Where the driver has ended.
+    pub fn list(&mut self, out: &[u8]) -> Result<()> {
+        self.0.write_all(b"l")?;
+        self.string(out)
+    }
+
     /// Sends what has not been sent yet.
     ///
     /// # Errors
@@ -201,6 +211,30 @@ pub struct Read {
     pub key: [u8; 16],
     /// The ten numbers.
     pub numbers: Numbers,
+}
+
+/// What a call of `cavernlull_list` gave, and what it left.
+#[derive(Debug, PartialEq, Eq)]
+pub struct Listed {
+    /// The listing's length.
+    pub length: u16,
+    /// The whole buffer.
+    pub out: Vec<u8>,
+}
+
+impl Listed {
+    /// Whether this is exactly the listing expected.
+    ///
+    /// # Errors
+    ///
+    /// A sentence that names the first thing that differs.
+    pub fn same_as(&self, expected: &Listed) -> Same {
+        if self.length != expected.length {
+            let (given, wanted) = (self.length, expected.length);
+            return Err(format!("its listing has {given} bytes and not {wanted}"));
+        }
+        same_bytes("the listing's buffer", &self.out, &expected.out)
+    }
 }
 
 /// Nothing, or a sentence that names the first thing that differs.
@@ -271,6 +305,18 @@ impl Answers {
             number,
             key,
             numbers,
+        }
+    }
+
+    /// The next answer to a listing.
+    ///
+    /// # Panics
+    ///
+    /// Where the driver ends before it has answered.
+    pub fn listed(&mut self) -> Listed {
+        Listed {
+            length: self.number(),
+            out: self.string(),
         }
     }
 
