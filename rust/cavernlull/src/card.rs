@@ -1,7 +1,7 @@
 //! A card: a table of slots, and the agent that answers requests about it.
 
 use crate::archive;
-use crate::{CallError, Error, Reply, Request, Verdict, REPLY_ROOM, SLOT_BYTES};
+use crate::{CallError, Error, Listing, Reply, Request, Verdict, REPLY_ROOM, SLOT_BYTES};
 use std::fmt;
 
 /// A card, over a table that it owns (`Card`) or is lent
@@ -101,6 +101,11 @@ impl<T: AsRef<[u8]> + AsMut<[u8]>> Card<T> {
     /// The table.
     pub fn table(&self) -> &[u8] {
         self.table.as_ref()
+    }
+
+    /// What is in the slots, as text.
+    pub fn listing(&self) -> Listing {
+        Listing::of(self.table())
     }
 }
 

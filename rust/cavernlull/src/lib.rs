@@ -2,15 +2,16 @@
 //!
 //! A shop loads training courses onto cards as rights; the agent in the card
 //! keeps them in a table of slots, lends them, takes them back and removes
-//! them, by request frames. The agent, the request writer and the reply reader
-//! are proved code in an archive, `libcavernlull.a`; this crate gives them the
-//! types that Rust expects and adds nothing to what they do.
+//! them, by request frames. The agent, the request writer, the reply reader and
+//! the listing are proved code in an archive, `libcavernlull.a`; this crate
+//! gives them the types that Rust expects and adds nothing to what they do.
 //!
 //! | | |
 //! |---|---|
 //! | [`Card`] | a table of slots, and the agent that answers requests about it |
 //! | [`Request`] | a request of one of nine [kinds](Kind), and its frame |
 //! | [`Reply`] | what the card answered, read from the frame of a reply |
+//! | [`Listing`] | what is in the slots, as text |
 //! | [`Right`] | what a right holds: [`Key`], count, [hashes](AssetHash), payload |
 //! | [`CallError`], [`WriteError`], [`ReadError`] | what the agent, the writer and the reader refuse |
 //!
@@ -64,6 +65,7 @@ mod archive;
 mod card;
 mod error;
 mod kind;
+mod listing;
 mod reply;
 mod request;
 mod right;
@@ -73,6 +75,7 @@ mod verdict;
 pub use card::Card;
 pub use error::{CallError, Error, ReadError, WriteError};
 pub use kind::Kind;
+pub use listing::Listing;
 pub use reply::Reply;
 pub use request::Request;
 pub use right::{AssetHash, Handle, Key, Right};
@@ -105,3 +108,6 @@ pub const HASH_BYTES: usize = 20;
 
 /// The most asset hashes of a right, or of a query.
 pub const MOST_HASHES: usize = 8;
+
+/// The bytes of the longest listing.
+pub const LISTING_ROOM: usize = 406;

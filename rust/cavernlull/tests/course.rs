@@ -117,6 +117,10 @@ impl<T: AsRef<[u8]> + AsMut<[u8]>> Desk<T> {
         self.list(&[COURSE]);
 
         self.ask(setup(OTHER, 1), &[installed, reserved(OTHER, 1)]);
+        assert_eq!(
+            self.card.listing().as_str(),
+            "slot place hashes count length\n0 enabled 2 258 16\n1 reserved 0 0 1\n"
+        );
         self.refused(setup(BORROWER, 1), Status::NotEnoughSpace);
     }
 

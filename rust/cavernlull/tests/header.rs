@@ -34,6 +34,7 @@ fn sizes_are_those_of_the_header() {
         ("KEY_BYTES", KEY_BYTES),
         ("HASH_BYTES", HASH_BYTES),
         ("MOST_HASHES", MOST_HASHES),
+        ("LISTING_ROOM", LISTING_ROOM),
     ] {
         assert_eq!(constants.get(name), Some(&size), "{name}");
     }

@@ -1,8 +1,10 @@
 //! What the agent, the writer and the reader refuse, and that each refusal
 //! leaves all that was lent as it was.
 
-use cavernlull::{AssetHash, CallError, Card, Error, Handle, ReadError, Reply, Request, Right};
-use cavernlull::{Status, Verdict, WriteError, REPLY_ROOM, REQUEST_ROOM, SLOT_BYTES};
+use cavernlull::{AssetHash, CallError, Card, Error, Handle, Listing, ReadError, Reply};
+use cavernlull::{
+    Request, Right, Status, Verdict, WriteError, REPLY_ROOM, REQUEST_ROOM, SLOT_BYTES,
+};
 
 const HANDLE: Handle = Handle([1; 10]);
 
@@ -48,6 +50,25 @@ fn the_agent_refuses_in_order() {
     assert_refused(&spoiled, cut, REPLY_ROOM, CallError::TableNotWellFormed);
     assert_refused(&blank, cut, REPLY_ROOM, CallError::NoFrame);
     assert_refused(&blank, &[], REPLY_ROOM, CallError::NoFrame);
+}
+
+/// The listing says of a table what the agent says of it.
+#[test]
+fn a_refused_table_is_listed_as_refused() {
+    let mut table = vec![0; SLOT_BYTES];
+    let header = "slot place hashes count length\n";
+    assert_eq!(
+        Listing::of(&table).as_str(),
+        format!("{header}0 empty 0 0 0\n")
+    );
+    table[191] = 1;
+    assert_eq!(Listing::of(&table).as_str(), "refused 103\n");
+    table.push(0);
+    assert_eq!(
+        Card::over(&mut table).listing().to_string(),
+        "refused 102\n"
+    );
+    assert_eq!(Listing::of(&[]).to_string(), "refused 102\n");
 }
 
 #[test]

@@ -3,7 +3,7 @@
 //! a time, and ends with it.
 
 use super::Fields;
-use crate::KEY_BYTES;
+use crate::{KEY_BYTES, LISTING_ROOM};
 use driver::{Answers, Commands, Driver};
 use std::io::Result;
 use std::sync::{Mutex, PoisonError};
@@ -66,4 +66,17 @@ pub(crate) fn read_reply(frame: &[u8], key: &mut [u8; KEY_BYTES], numbers: &mut 
     *key = given.key;
     *numbers = given.numbers;
     given.number
+}
+
+/// `cavernlull_list`.
+pub(crate) fn list(table: &[u8], out: &mut [u8; LISTING_ROOM]) -> usize {
+    let given = ask(
+        |commands| {
+            commands.table(table)?;
+            commands.list(out)
+        },
+        Answers::listed,
+    );
+    out.copy_from_slice(&given.out);
+    given.length.into()
 }

@@ -9,7 +9,7 @@
 #![allow(unsafe_code)]
 
 use super::Fields;
-use crate::KEY_BYTES;
+use crate::{KEY_BYTES, LISTING_ROOM};
 
 extern "C" {
     fn cavernlull_call(
@@ -43,6 +43,8 @@ extern "C" {
         key: *mut u8,
         fields: *mut u16,
     ) -> u16;
+
+    fn cavernlull_list(table: *const u8, table_length: usize, out: *mut u8) -> usize;
 }
 
 /// `cavernlull_call`.
@@ -98,4 +100,12 @@ pub(crate) fn read_reply(frame: &[u8], key: &mut [u8; KEY_BYTES], numbers: &mut 
             numbers.as_mut_ptr(),
         )
     }
+}
+
+/// `cavernlull_list`.
+pub(crate) fn list(table: &[u8], out: &mut [u8; LISTING_ROOM]) -> usize {
+    // SAFETY: the table's pointer is that of a slice, with its length; `out`
+    // is an array of the 406 bytes that the function may write, and is
+    // borrowed to be changed, so it does not overlap the table.
+    unsafe { cavernlull_list(table.as_ptr(), table.len(), out.as_mut_ptr()) }
 }
