@@ -136,12 +136,9 @@ pub fn compare_writers(mut rng: Rng, calls: u64) -> WriterCounts {
         },
         |answers, (kind, fields, expected)| {
             let given = answers.written();
-            assert!(
-                given == expected,
-                "kind {kind} and {fields:02x?} gave {}, where {} was expected",
-                given.number,
-                expected.number
-            );
+            if let Err(difference) = given.same_as(&expected) {
+                panic!("kind {kind} and {fields:02x?}: {difference}");
+            }
             *counts.entry((given.number, kind)).or_default() += 1;
         },
     );
@@ -186,7 +183,9 @@ pub fn compare_readers(mut rng: Rng, calls: u64) -> ReaderCounts {
         },
         |answers, (frame, expected)| {
             let given = answers.read();
-            assert_eq!(given, expected, "{frame:02x?}");
+            if let Err(difference) = given.same_as(&expected) {
+                panic!("{frame:02x?}: {difference}");
+            }
             let [kind, status] = match given.number {
                 0 => [given.numbers[0] as u8, given.numbers[1] as u8],
                 _ => [0, 0],

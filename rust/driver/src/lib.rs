@@ -181,10 +181,7 @@ impl Call {
     ///
     /// A sentence that names the first thing that differs.
     pub fn same_as(&self, expected: &Call) -> Same {
-        if self.number != expected.number {
-            let (given, wanted) = (self.number, expected.number);
-            return Err(format!("it gave {given} where {wanted} was expected"));
-        }
+        same_number(self.number, expected.number)?;
         same_bytes("the reply buffer", &self.reply, &expected.reply)?;
         same_bytes("the table", &self.table, &expected.table)
     }
@@ -199,6 +196,18 @@ pub struct Written {
     pub out: Vec<u8>,
 }
 
+impl Written {
+    /// Whether this is exactly the request expected.
+    ///
+    /// # Errors
+    ///
+    /// A sentence that names the first thing that differs.
+    pub fn same_as(&self, expected: &Written) -> Same {
+        same_number(self.number, expected.number)?;
+        same_bytes("the request's buffer", &self.out, &expected.out)
+    }
+}
+
 /// The ten numbers of a reply.
 pub type Numbers = [u16; 10];
 
@@ -211,6 +220,23 @@ pub struct Read {
     pub key: [u8; 16],
     /// The ten numbers.
     pub numbers: Numbers,
+}
+
+impl Read {
+    /// Whether this is exactly the reply expected.
+    ///
+    /// # Errors
+    ///
+    /// A sentence that names the first thing that differs.
+    pub fn same_as(&self, expected: &Read) -> Same {
+        same_number(self.number, expected.number)?;
+        same_bytes("the key", &self.key, &expected.key)?;
+        if self.numbers != expected.numbers {
+            let (given, wanted) = (self.numbers, expected.numbers);
+            return Err(format!("it read {given:?} where {wanted:?} was expected"));
+        }
+        Ok(())
+    }
 }
 
 /// What a call of `cavernlull_list` gave, and what it left.
@@ -239,6 +265,13 @@ impl Listed {
 
 /// Nothing, or a sentence that names the first thing that differs.
 pub type Same = std::result::Result<(), String>;
+
+fn same_number(given: u16, wanted: u16) -> Same {
+    if given != wanted {
+        return Err(format!("it gave {given} where {wanted} was expected"));
+    }
+    Ok(())
+}
 
 /// Whether lent memory is as expected, and if not, where.
 fn same_bytes(what: &str, given: &[u8], expected: &[u8]) -> Same {
