@@ -1,6 +1,6 @@
 //! One call after another, by the archive and by the reference.
 
-use crate::driver::{Call, Driver};
+use driver::{Call, Driver};
 
 /// A table lent to the archive, and its equal lent to the reference.
 pub struct Both {

@@ -4,12 +4,12 @@
 //! reference made of it is held against what the driver answers; so is the
 //! listing of the table after each call.
 
-use crate::driver::{Call, Listed, Same};
 use crate::frames::Asker;
 use crate::outcome::{Counts, Outcome};
 use crate::pipeline::{self, Giver};
-use crate::rng::Rng;
 use crate::tables::{blank, damaged, listing_buffer, reply_buffer};
+use driver::{Call, Listed, Same};
+use random::Rng;
 use reference::ledger::{agrees, Ledger};
 use reference::{read_request, ReadRequest, MAX_SLOTS};
 use std::io::Result;

@@ -1,9 +1,9 @@
 //! Requests written and replies read, at random.
 
-use crate::driver::{Numbers, Read, Written};
 use crate::frames::{count, frame, payload_length, room, Asker};
 use crate::pipeline;
-use crate::rng::Rng;
+use driver::{Numbers, Read, Written};
+use random::Rng;
 use reference::{read_reply, write_request, Fields, Handle, Key, Reply, Status};
 use reference::{HANDLE_BYTES, HASH_BYTES};
 use std::collections::BTreeMap;
@@ -35,6 +35,19 @@ impl OwnFields {
             new_handle: self.new_handle,
             key: self.key,
             length: self.length,
+            count: self.count,
+            limit: self.limit,
+            hashes: &self.hashes,
+            payload: &self.payload,
+        }
+    }
+
+    fn sent(&self) -> driver::Fields<'_> {
+        driver::Fields {
+            handle: &self.handle,
+            new_handle: &self.new_handle,
+            key: &self.key,
+            room: self.length,
             count: self.count,
             limit: self.limit,
             hashes: &self.hashes,
@@ -115,7 +128,7 @@ pub fn compare_writers(mut rng: Rng, calls: u64) -> WriterCounts {
                     fields.spoil(&mut rng, &asker);
                 }
                 let mut out = out_buffer(&mut rng, kind, &fields.lent());
-                giver.commands.write_request(kind, &fields.lent(), &out)?;
+                giver.commands.write_request(kind, &fields.sent(), &out)?;
                 let number = write_request(kind, &fields.lent(), &mut out);
                 giver.expect((kind, fields, Written { number, out }))?;
             }
@@ -123,12 +136,9 @@ pub fn compare_writers(mut rng: Rng, calls: u64) -> WriterCounts {
         },
         |answers, (kind, fields, expected)| {
             let given = answers.written();
-            assert!(
-                given == expected,
-                "kind {kind} and {fields:02x?} gave {}, where {} was expected",
-                given.number,
-                expected.number
-            );
+            if let Err(difference) = given.same_as(&expected) {
+                panic!("kind {kind} and {fields:02x?}: {difference}");
+            }
             *counts.entry((given.number, kind)).or_default() += 1;
         },
     );
@@ -173,7 +183,9 @@ pub fn compare_readers(mut rng: Rng, calls: u64) -> ReaderCounts {
         },
         |answers, (frame, expected)| {
             let given = answers.read();
-            assert_eq!(given, expected, "{frame:02x?}");
+            if let Err(difference) = given.same_as(&expected) {
+                panic!("{frame:02x?}: {difference}");
+            }
             let [kind, status] = match given.number {
                 0 => [given.numbers[0] as u8, given.numbers[1] as u8],
                 _ => [0, 0],

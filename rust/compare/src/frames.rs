@@ -1,6 +1,6 @@
 //! Request frames at random, right and wrong ones.
 
-use crate::rng::Rng;
+use random::Rng;
 use reference::{Handle, HASH_BYTES};
 
 /// A hash.
@@ -81,9 +81,18 @@ impl Asker {
             &count(rng).to_be_bytes(),
             &[hash_count(&hashes) << 4],
             &hashes,
-            &rng.bytes(payload),
+            &self.payload(rng, payload),
         ]
         .concat()
+    }
+
+    /// A payload; one in four is such that others have the same bytes, and
+    /// are other rights all the same.
+    fn payload(&self, rng: &mut Rng, length: usize) -> Vec<u8> {
+        match rng.below(4) {
+            0 => vec![0x5A; length],
+            _ => rng.bytes(length),
+        }
     }
 
     fn list(&self, rng: &mut Rng) -> Vec<u8> {

@@ -1,16 +1,12 @@
 //! The comparison of the proved archive with [`reference`], byte for byte.
 //!
-//! The archive is x86-64 code. It is called by a small C program, the driver
-//! (`tests/c/driver.c`, built by `scripts/driver`), which runs on any machine
-//! that has the Rattle toolchain, under its emulator if need be. [`driver`]
-//! starts it and speaks with it; the tests make calls at random, give each to
-//! the archive and to the reference, and hold number, reply buffer and table
-//! of the one against those of the other, and the table's listing too.
+//! The archive is called by a small C program, the [`driver`]. The tests make
+//! calls at random, give each to the archive and to the reference, and hold
+//! number, reply buffer and table of the one against those of the other, and
+//! the table's listing too.
 //!
 //! | | |
 //! |---|---|
-//! | [`driver`] | the driver, and the commands that it takes |
-//! | [`rng`] | random numbers, from a seed that is printed |
 //! | [`frames`] | request frames at random, right and wrong ones |
 //! | [`tables`] | damaged tables, and buffers for replies and listings |
 //! | [`pipeline`] | many commands on their way at once |
@@ -28,9 +24,7 @@
 pub mod both;
 pub mod calls;
 pub mod device;
-pub mod driver;
 pub mod frames;
 pub mod outcome;
 pub mod pipeline;
-pub mod rng;
 pub mod tables;

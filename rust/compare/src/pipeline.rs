@@ -3,7 +3,7 @@
 //! One thread gives the commands and says what it expects of each; another
 //! takes the answers, in the same order, and checks them.
 
-use crate::driver::{Answers, Commands, Driver};
+use driver::{Answers, Commands, Driver};
 use std::io::{Error, Result};
 use std::panic::resume_unwind;
 use std::sync::mpsc::{sync_channel, SyncSender};

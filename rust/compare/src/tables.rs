@@ -1,6 +1,6 @@
 //! Damaged tables, and buffers for replies and listings.
 
-use crate::rng::Rng;
+use random::Rng;
 use reference::{MAX_SLOTS, REPLY_ROOM, SLOT_BYTES};
 
 /// Room for the longest listing: a header of 31 bytes, and 15 lines of 25.

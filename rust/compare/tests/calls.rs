@@ -3,7 +3,7 @@
 
 use compare::calls::compare;
 use compare::outcome::assert_all_occurred;
-use compare::rng::{setting, Rng};
+use random::{setting, Rng};
 
 /// The calls made unless `COMPARE_CALLS` says how many.
 const CALLS: u64 = 100_000;

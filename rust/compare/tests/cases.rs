@@ -2,8 +2,8 @@
 
 use compare::both::Both;
 use compare::frames::{frame, KINDS_OUTSIDE};
-use compare::rng::Rng;
 use compare::tables::blank;
+use random::Rng;
 use reference::{REPLY_ROOM, SLOT_BYTES};
 
 /// What reply buffers hold before a call.

@@ -2,7 +2,7 @@
 //! replies that the reference writes and reads, and refuses what it refuses.
 
 use compare::device::{compare_readers, compare_writers};
-use compare::rng::{setting, Rng};
+use random::{setting, Rng};
 
 /// The calls made unless `COMPARE_CALLS` says how many.
 const CALLS: u64 = 100_000;

@@ -9,8 +9,9 @@ use std::thread;
 use std::time::Duration;
 
 use programs::command;
+use random::Rng;
 use reference::{listing, Place, SLOT_BYTES};
-use tables::{by_requests, empty, reserved, right, Rng, LARGEST};
+use tables::{any_table, by_requests, empty, reserved, right, LARGEST};
 
 /// What the program prints where `feed` writes its input.
 fn printed_of(feed: impl FnOnce(&mut ChildStdin) + Send + 'static) -> String {
@@ -217,19 +218,19 @@ fn two_slots_with_one_handle_are_103() {
 
 #[test]
 fn random_tables_are_listed() {
-    let mut rng = Rng(0x5EED_0002);
+    let mut rng = Rng::announced("random tables");
     for turn in 0..150 {
-        let table = rng.table();
+        let table = any_table(&mut rng);
         lists(&table, HEADER, &format!("table {turn}"));
     }
 }
 
 #[test]
 fn random_damage_is_judged_alike() {
-    let mut rng = Rng(0x5EED_0003);
+    let mut rng = Rng::announced("random damage");
     let mut refused = 0;
     for turn in 0..150 {
-        let mut table = rng.table();
+        let mut table = any_table(&mut rng);
         let at = rng.below(table.len() / SLOT_BYTES) * SLOT_BYTES + rng.below(260);
         table[at] ^= 1 << rng.below(8);
         lists(&table, "", &format!("table {turn}, byte {at}"));

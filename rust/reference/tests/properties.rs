@@ -1,9 +1,10 @@
 //! Properties of random calls, requests and frames. The seed is printed; set
-//! `REFERENCE_SEED` to a decimal number for another.
+//! `COMPARE_SEED` to a decimal number for another.
 
 mod common;
 
-use common::{blank, body_bytes, call, request_bytes, Asker, Rng, FILLER};
+use common::{blank, body_bytes, call, request_bytes, Asker, FILLER};
+use random::Rng;
 use reference::ledger::{agrees, Ledger, Right, Standing};
 use reference::ReadRequest::{NoFrame, Refused, Request};
 use reference::{read_reply, read_request, well_formed, write_request};

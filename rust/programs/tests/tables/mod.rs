@@ -1,5 +1,6 @@
 //! Tables to be listed: made by calls of the agent, by hand, and at random.
 
+use random::Rng;
 use reference::{call, write_request, Fields, Place, HASH_BYTES, REPLY_ROOM, SLOT_BYTES};
 
 /// The largest table, of 64,320 bytes.
@@ -101,45 +102,31 @@ pub fn by_requests() -> Vec<u8> {
     table
 }
 
-/// The splitmix64 generator.
-pub struct Rng(pub u64);
+/// A number of few or many digits, up to `most`.
+fn number(rng: &mut Rng, most: usize) -> u16 {
+    let bound = rng.pick(&[10, 100, 1000, 10_000, 65_536]).min(most + 1);
+    rng.below(bound) as u16
+}
 
-impl Rng {
-    /// A number under `bound`.
-    pub fn below(&mut self, bound: usize) -> usize {
-        self.0 = self.0.wrapping_add(0x9E37_79B9_7F4A_7C15);
-        let mut z = self.0;
-        z = (z ^ (z >> 30)).wrapping_mul(0xBF58_476D_1CE4_E5B9);
-        z = (z ^ (z >> 27)).wrapping_mul(0x94D0_49BB_1331_11EB);
-        ((z ^ (z >> 31)) % bound as u64) as usize
+/// A well-formed slot under ten bytes `handle`, at random.
+fn any_slot(rng: &mut Rng, handle: u8) -> Vec<u8> {
+    let place = [Place::Reserved, Place::Enabled, Place::Disabled];
+    let length = 1 + number(rng, 4095);
+    match rng.below(4) {
+        3 => empty(),
+        0 => reserved(handle, length),
+        i => right(
+            place[i],
+            handle,
+            rng.below(9) as u8,
+            number(rng, 65_535),
+            length,
+        ),
     }
+}
 
-    /// A number of few or many digits, up to `most`.
-    pub fn number(&mut self, most: usize) -> u16 {
-        let bound = [10, 100, 1000, 10_000, 65_536][self.below(5)].min(most + 1);
-        self.below(bound) as u16
-    }
-
-    /// A well-formed slot under ten bytes `handle`.
-    pub fn slot(&mut self, handle: u8) -> Vec<u8> {
-        let place = [Place::Reserved, Place::Enabled, Place::Disabled];
-        let length = 1 + self.number(4095);
-        match self.below(4) {
-            3 => empty(),
-            0 => reserved(handle, length),
-            i => right(
-                place[i],
-                handle,
-                self.below(9) as u8,
-                self.number(65_535),
-                length,
-            ),
-        }
-    }
-
-    /// A well-formed table of 1 to 15 slots.
-    pub fn table(&mut self) -> Vec<u8> {
-        let slots = 1 + self.below(15);
-        (0..slots as u8).flat_map(|i| self.slot(i)).collect()
-    }
+/// A well-formed table of 1 to 15 slots, at random.
+pub fn any_table(rng: &mut Rng) -> Vec<u8> {
+    let slots = 1 + rng.below(15);
+    (0..slots as u8).flat_map(|i| any_slot(rng, i)).collect()
 }

@@ -1,61 +1,12 @@
-//! What the tests share: a small random number generator, frames written by
-//! hand, and requests made at random.
+//! What the tests share: frames written by hand, and requests made at random.
 
 #![allow(dead_code)] // no single test file needs all of it
 
+use random::Rng;
 use reference::{Fields, Handle, Key, HASH_BYTES, REPLY_ROOM, SLOT_BYTES};
-
-/// The seed of the random tests unless `REFERENCE_SEED` gives another.
-const DEFAULT_SEED: u64 = 0x5EED_0001;
 
 /// What reply buffers hold before a call.
 pub const FILLER: u8 = 0xA5;
-
-/// The splitmix64 generator.
-pub struct Rng(u64);
-
-impl Rng {
-    /// A generator whose seed is printed, so that a failed run can be
-    /// repeated.
-    pub fn announced(test: &str) -> Self {
-        let seed = match std::env::var("REFERENCE_SEED") {
-            Ok(text) => text.parse().expect("REFERENCE_SEED is a decimal number"),
-            Err(_) => DEFAULT_SEED,
-        };
-        println!("{test}: REFERENCE_SEED={seed}");
-        Rng(seed)
-    }
-
-    pub fn next(&mut self) -> u64 {
-        self.0 = self.0.wrapping_add(0x9E37_79B9_7F4A_7C15);
-        let mut z = self.0;
-        z = (z ^ (z >> 30)).wrapping_mul(0xBF58_476D_1CE4_E5B9);
-        z = (z ^ (z >> 27)).wrapping_mul(0x94D0_49BB_1331_11EB);
-        z ^ (z >> 31)
-    }
-
-    /// A number under `bound`.
-    pub fn below(&mut self, bound: usize) -> usize {
-        (self.next() % bound as u64) as usize
-    }
-
-    /// True once in `n` times.
-    pub fn one_in(&mut self, n: usize) -> bool {
-        self.below(n) == 0
-    }
-
-    pub fn byte(&mut self) -> u8 {
-        self.next() as u8
-    }
-
-    pub fn bytes(&mut self, length: usize) -> Vec<u8> {
-        (0..length).map(|_| self.byte()).collect()
-    }
-
-    pub fn pick<T: Copy>(&mut self, items: &[T]) -> T {
-        items[self.below(items.len())]
-    }
-}
 
 /// The fields of a request, with hashes and payload of its own.
 #[derive(Clone, Debug, Default)]
@@ -139,7 +90,7 @@ impl Asker {
                 fields.payload = rng.bytes(length);
             }
             3 | 4 => fields.new_handle = self.handle(rng),
-            5 => fields.count = rng.next() as u16,
+            5 => fields.count = rng.word(),
             8 => {
                 fields.limit = rng.pick(&[0, 0, 1, 9, 10, 19, 20, 55, 149, 150, 0xFFFF]);
                 fields.hashes = self.hashes(rng);

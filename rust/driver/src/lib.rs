@@ -1,11 +1,17 @@
 //! The driver: a program that calls the archive as it is told on its standard
 //! input, and says on its standard output what came of it.
 //!
+//! The archive is x86-64 code, and so is the driver (`tests/c/driver.c`, built
+//! by `scripts/driver`); it runs on any machine that has the Rattle toolchain,
+//! under its emulator if need be.
+//!
 //! Commands go in and answers come out in the same order, so many commands
 //! may be on their way at once. Both ends have then to be served at the same
-//! time, since a pipe that is full stops the driver ([`crate::pipeline`]).
+//! time, since a pipe that is full stops the driver.
 
-use reference::{Fields, Key, KEY_BYTES};
+#![forbid(unsafe_code)]
+#![warn(missing_docs)]
+
 use std::io::{BufReader, BufWriter, Read as _, Result, Write as _};
 use std::path::Path;
 use std::process::{Child, ChildStdin, ChildStdout, Command, Stdio};
@@ -15,6 +21,27 @@ const RUN: &str = concat!(env!("CARGO_MANIFEST_DIR"), "/../../target/driver/run"
 
 /// Room for some tables on their way.
 const PIPE_BYTES: usize = 1 << 18;
+
+/// The fields of a request, as `cavernlull_write_request` is lent them.
+#[derive(Clone, Copy)]
+pub struct Fields<'a> {
+    /// The handle.
+    pub handle: &'a [u8; 10],
+    /// The new handle.
+    pub new_handle: &'a [u8; 10],
+    /// The key.
+    pub key: &'a [u8; 16],
+    /// The room asked for.
+    pub room: u16,
+    /// The count.
+    pub count: u16,
+    /// The limit.
+    pub limit: u16,
+    /// The hashes, one after another.
+    pub hashes: &'a [u8],
+    /// The payload.
+    pub payload: &'a [u8],
+}
 
 /// A driver that runs.
 pub struct Driver {
@@ -84,12 +111,12 @@ impl Commands {
     /// Where the driver has ended.
     pub fn write_request(&mut self, kind: u8, fields: &Fields<'_>, out: &[u8]) -> Result<()> {
         self.0.write_all(b"w")?;
-        for number in [kind.into(), fields.length, fields.count, fields.limit] {
+        for number in [kind.into(), fields.room, fields.count, fields.limit] {
             self.number(number.into())?;
         }
-        self.string(&fields.handle)?;
-        self.string(&fields.new_handle)?;
-        self.string(&fields.key)?;
+        self.string(fields.handle)?;
+        self.string(fields.new_handle)?;
+        self.string(fields.key)?;
         self.string(fields.hashes)?;
         self.string(fields.payload)?;
         self.string(out)
@@ -100,11 +127,11 @@ impl Commands {
     /// # Errors
     ///
     /// Where the driver has ended.
-    pub fn read_reply(&mut self, frame: &[u8], key: &Key, numbers: &Numbers) -> Result<()> {
+    pub fn read_reply(&mut self, frame: &[u8], key: &[u8; 16], numbers: &Numbers) -> Result<()> {
         self.0.write_all(b"r")?;
         self.string(frame)?;
         self.string(key)?;
-        self.string(numbers.map(u16::to_le_bytes).as_flattened())
+        self.string(&numbers.map(u16::to_le_bytes).concat())
     }
 
     /// Has `cavernlull_list` called on the table; the answer is a [`Listed`].
@@ -154,10 +181,7 @@ impl Call {
     ///
     /// A sentence that names the first thing that differs.
     pub fn same_as(&self, expected: &Call) -> Same {
-        if self.number != expected.number {
-            let (given, wanted) = (self.number, expected.number);
-            return Err(format!("it gave {given} where {wanted} was expected"));
-        }
+        same_number(self.number, expected.number)?;
         same_bytes("the reply buffer", &self.reply, &expected.reply)?;
         same_bytes("the table", &self.table, &expected.table)
     }
@@ -172,6 +196,18 @@ pub struct Written {
     pub out: Vec<u8>,
 }
 
+impl Written {
+    /// Whether this is exactly the request expected.
+    ///
+    /// # Errors
+    ///
+    /// A sentence that names the first thing that differs.
+    pub fn same_as(&self, expected: &Written) -> Same {
+        same_number(self.number, expected.number)?;
+        same_bytes("the request's buffer", &self.out, &expected.out)
+    }
+}
+
 /// The ten numbers of a reply.
 pub type Numbers = [u16; 10];
 
@@ -181,9 +217,26 @@ pub struct Read {
     /// The number.
     pub number: u16,
     /// The key.
-    pub key: Key,
+    pub key: [u8; 16],
     /// The ten numbers.
     pub numbers: Numbers,
+}
+
+impl Read {
+    /// Whether this is exactly the reply expected.
+    ///
+    /// # Errors
+    ///
+    /// A sentence that names the first thing that differs.
+    pub fn same_as(&self, expected: &Read) -> Same {
+        same_number(self.number, expected.number)?;
+        same_bytes("the key", &self.key, &expected.key)?;
+        if self.numbers != expected.numbers {
+            let (given, wanted) = (self.numbers, expected.numbers);
+            return Err(format!("it read {given:?} where {wanted:?} was expected"));
+        }
+        Ok(())
+    }
 }
 
 /// What a call of `cavernlull_list` gave, and what it left.
@@ -212,6 +265,13 @@ impl Listed {
 
 /// Nothing, or a sentence that names the first thing that differs.
 pub type Same = std::result::Result<(), String>;
+
+fn same_number(given: u16, wanted: u16) -> Same {
+    if given != wanted {
+        return Err(format!("it gave {given} where {wanted} was expected"));
+    }
+    Ok(())
+}
 
 /// Whether lent memory is as expected, and if not, where.
 fn same_bytes(what: &str, given: &[u8], expected: &[u8]) -> Same {
@@ -267,16 +327,17 @@ impl Answers {
     /// Where the driver ends before it has answered.
     pub fn read(&mut self) -> Read {
         let number = self.number();
-        let key = self.string();
-        let numbers = self.string();
-        let pairs = numbers.as_chunks::<2>().0;
+        let key = self.string().try_into().expect("a key");
+        let bytes = self.string();
+        let mut numbers = [0; 10];
+        assert_eq!(bytes.len(), 2 * numbers.len(), "ten numbers");
+        for (number, pair) in numbers.iter_mut().zip(bytes.chunks_exact(2)) {
+            *number = u16::from_le_bytes([pair[0], pair[1]]);
+        }
         Read {
             number,
-            key: *key.first_chunk::<KEY_BYTES>().expect("a key"),
-            numbers: pairs
-                .first_chunk::<10>()
-                .expect("ten")
-                .map(u16::from_le_bytes),
+            key,
+            numbers,
         }
     }
 

@@ -1,4 +1,9 @@
-//! Random numbers, from a seed that is printed.
+//! Random numbers for tests, from a seed that is printed.
+//!
+//! The environment variable `COMPARE_SEED` sets another seed, in decimal.
+
+#![forbid(unsafe_code)]
+#![warn(missing_docs)]
 
 /// The seed unless `COMPARE_SEED` gives another.
 const DEFAULT_SEED: u64 = 0x5EED_0002;
@@ -9,6 +14,10 @@ pub struct Rng(u64);
 impl Rng {
     /// A generator whose seed is printed, so that a failed run can be
     /// repeated.
+    ///
+    /// # Panics
+    ///
+    /// Where `COMPARE_SEED` is set and is no decimal number.
     pub fn announced(test: &str) -> Self {
         let seed = setting("COMPARE_SEED").unwrap_or(DEFAULT_SEED);
         println!("{test}: COMPARE_SEED={seed}");

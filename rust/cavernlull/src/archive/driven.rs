@@ -1,0 +1,82 @@
+//! The archive by way of the driver, on machines that are not x86-64: for
+//! tests and demonstrations. One driver serves the whole program, a command at
+//! a time, and ends with it.
+
+use super::Fields;
+use crate::{KEY_BYTES, LISTING_ROOM};
+use driver::{Answers, Commands, Driver};
+use std::io::Result;
+use std::sync::{Mutex, PoisonError};
+
+static DRIVER: Mutex<Option<Driver>> = Mutex::new(None);
+
+/// Gives the driver a command and takes its answer.
+fn ask<A>(
+    give: impl FnOnce(&mut Commands) -> Result<()>,
+    answer: impl FnOnce(&mut Answers) -> A,
+) -> A {
+    let mut driver = DRIVER.lock().unwrap_or_else(PoisonError::into_inner);
+    let Driver { commands, answers } = driver.get_or_insert_with(Driver::start);
+    give(commands)
+        .and_then(|()| commands.send())
+        .expect("the driver takes the command");
+    answer(answers)
+}
+
+/// `cavernlull_call`.
+pub(crate) fn call(table: &mut [u8], frame: &[u8], reply: &mut [u8]) -> u16 {
+    let given = ask(
+        |commands| {
+            commands.table(table)?;
+            commands.call(frame, reply)
+        },
+        Answers::call,
+    );
+    table.copy_from_slice(&given.table);
+    reply.copy_from_slice(&given.reply);
+    given.number
+}
+
+/// `cavernlull_write_request`.
+pub(crate) fn write_request(kind: u8, fields: &Fields<'_>, out: &mut [u8]) -> u16 {
+    let fields = driver::Fields {
+        handle: &fields.handle,
+        new_handle: &fields.new_handle,
+        key: &fields.key,
+        room: fields.room,
+        count: fields.count,
+        limit: fields.limit,
+        hashes: &fields.hashes,
+        payload: fields.payload,
+    };
+    let given = ask(
+        |commands| commands.write_request(kind, &fields, out),
+        Answers::written,
+    );
+    out.copy_from_slice(&given.out);
+    given.number
+}
+
+/// `cavernlull_read_reply`.
+pub(crate) fn read_reply(frame: &[u8], key: &mut [u8; KEY_BYTES], numbers: &mut [u16; 10]) -> u16 {
+    let given = ask(
+        |commands| commands.read_reply(frame, key, numbers),
+        Answers::read,
+    );
+    *key = given.key;
+    *numbers = given.numbers;
+    given.number
+}
+
+/// `cavernlull_list`.
+pub(crate) fn list(table: &[u8], out: &mut [u8; LISTING_ROOM]) -> usize {
+    let given = ask(
+        |commands| {
+            commands.table(table)?;
+            commands.list(out)
+        },
+        Answers::listed,
+    );
+    out.copy_from_slice(&given.out);
+    given.length.into()
+}

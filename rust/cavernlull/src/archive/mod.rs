@@ -1,0 +1,34 @@
+//! The functions of the archive, one way or the other, with the types of
+//! Rust that they ask for.
+
+#[cfg(target_arch = "x86_64")]
+mod sys;
+#[cfg(target_arch = "x86_64")]
+pub(crate) use sys::{call, list, read_reply, write_request};
+
+#[cfg(not(target_arch = "x86_64"))]
+mod driven;
+#[cfg(not(target_arch = "x86_64"))]
+pub(crate) use driven::{call, list, read_reply, write_request};
+
+use crate::{HANDLE_BYTES, KEY_BYTES};
+
+/// The fields of a request of any kind. Those that the kind lacks are zero or
+/// empty.
+#[derive(Default)]
+pub(crate) struct Fields<'a> {
+    pub handle: [u8; HANDLE_BYTES],
+    pub new_handle: [u8; HANDLE_BYTES],
+    pub key: [u8; KEY_BYTES],
+    pub room: u16,
+    pub count: u16,
+    pub limit: u16,
+    pub hashes: Vec<u8>,
+    pub payload: &'a [u8],
+}
+
+/// The frame that the archive has written at the start of a buffer: 4 bytes,
+/// of which the last two say how long the body is that follows.
+pub(crate) fn frame_in(buffer: &[u8]) -> &[u8] {
+    &buffer[..4 + usize::from(u16::from_be_bytes([buffer[2], buffer[3]]))]
+}

@@ -1,0 +1,124 @@
+//! A card: a table of slots, and the agent that answers requests about it.
+
+use crate::archive;
+use crate::{CallError, Error, Listing, Reply, Request, Verdict, REPLY_ROOM, SLOT_BYTES};
+use std::fmt;
+
+/// A card, over a table that it owns (`Card`) or is lent
+/// (`Card<&mut [u8]>`).
+///
+/// The table is 1 to 15 slots of [`SLOT_BYTES`] bytes. Any bytes may be taken
+/// for a table; the agent looks at them at each call, and answers no request
+/// where they are none.
+///
+/// ```
+/// use cavernlull::{CallError, Card, Error, Handle, Request, Verdict, SLOT_BYTES};
+///
+/// let mut memory = [0; 2 * SLOT_BYTES];
+/// let mut card = Card::over(&mut memory);
+/// let setup = Request::InstallationSetup { handle: Handle([7; 10]), room: 300 };
+/// card.call(&setup, Verdict::Held)?;
+/// assert_eq!(memory[1..11], [7; 10]);
+///
+/// let mut no_card = Card::from(vec![0; 100]);
+/// let refused = no_card.call(&setup, Verdict::Held);
+/// assert_eq!(refused, Err(Error::Call(CallError::TableLength)));
+/// # Ok::<(), Error>(())
+/// ```
+#[derive(Clone)]
+pub struct Card<T = Vec<u8>> {
+    table: T,
+}
+
+impl Card {
+    /// A card whose slots are all empty. Unless there are 1 to 15, every call
+    /// is [`CallError::TableLength`].
+    pub fn blank(slots: usize) -> Card {
+        Card::from(vec![0; slots * SLOT_BYTES])
+    }
+}
+
+impl From<Vec<u8>> for Card {
+    /// A card over the table that these bytes are.
+    fn from(table: Vec<u8>) -> Card {
+        Card { table }
+    }
+}
+
+impl<'table> Card<&'table mut [u8]> {
+    /// A card over a table that is lent.
+    pub fn over(table: &'table mut [u8]) -> Card<&'table mut [u8]> {
+        Card { table }
+    }
+}
+
+impl<T: AsRef<[u8]> + AsMut<[u8]>> Card<T> {
+    /// Has the card answer a request: writes its frame, with the front end's
+    /// verdict, calls the agent and reads the reply.
+    ///
+    /// A request that the card refuses to carry out is no error: it is a
+    /// [`Reply::Refused`].
+    ///
+    /// # Errors
+    ///
+    /// [`Error::Write`] where the request has too many hashes or a payload of
+    /// a wrong length; [`Error::Call`] where the table is none. Nothing is
+    /// changed then.
+    pub fn call(&mut self, request: &Request, verdict: Verdict) -> Result<Reply, Error> {
+        let mut frame = request.to_frame()?;
+        verdict.put_into(&mut frame);
+        let mut reply = [0; REPLY_ROOM];
+        Ok(Reply::read(self.call_frame(&frame, &mut reply)?)?)
+    }
+
+    /// Has the card answer a request frame. The reply is written at the start
+    /// of the buffer, and that part of it is given; the bytes past it keep
+    /// what they held.
+    ///
+    /// # Errors
+    ///
+    /// Where the buffer has fewer than [`REPLY_ROOM`] bytes, the table is none
+    /// or the frame is none. Neither table nor buffer is changed then.
+    ///
+    /// ```
+    /// use cavernlull::{Card, REPLY_ROOM};
+    ///
+    /// let mut card = Card::blank(1);
+    /// let mut buffer = [0; REPLY_ROOM];
+    /// let reply = card.call_frame(&[0x2A, 0x80, 0, 0], &mut buffer)?;
+    /// assert_eq!(reply, [0x2A, 3, 0, 0], "there is no kind 10");
+    /// # Ok::<(), cavernlull::CallError>(())
+    /// ```
+    pub fn call_frame<'reply>(
+        &mut self,
+        frame: &[u8],
+        reply: &'reply mut [u8],
+    ) -> Result<&'reply [u8], CallError> {
+        CallError::of(archive::call(self.table.as_mut(), frame, reply))?;
+        Ok(archive::frame_in(reply))
+    }
+
+    /// The table.
+    pub fn table(&self) -> &[u8] {
+        self.table.as_ref()
+    }
+
+    /// What is in the slots, as text.
+    pub fn listing(&self) -> Listing {
+        Listing::of(self.table())
+    }
+}
+
+impl<T> Card<T> {
+    /// Gives the table back.
+    pub fn into_table(self) -> T {
+        self.table
+    }
+}
+
+/// Only how long the table is: it holds keys.
+impl<T: AsRef<[u8]>> fmt::Debug for Card<T> {
+    fn fmt(&self, f: &mut fmt::Formatter<'_>) -> fmt::Result {
+        write!(f, "Card({} bytes)", self.table.as_ref().len())
+    }
+}

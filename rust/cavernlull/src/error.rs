@@ -1,0 +1,193 @@
+//! What the agent, the request writer and the reply reader refuse.
+//!
+//! Each refusal leaves all that was lent as it was.
+
+use std::error;
+use std::fmt;
+
+/// The agent did not answer: there is no reply, and the table is as it was.
+///
+/// A request that the card will not carry out is no such error: it has a
+/// reply, with a [status](crate::Status) that is not
+/// [`Success`](crate::Status::Success).
+#[derive(Clone, Copy, Debug, PartialEq, Eq, Hash)]
+pub enum CallError {
+    /// 101: the reply buffer has fewer than 4,279 bytes.
+    ReplyBufferShort,
+    /// 102: the table is not 1 to 15 slots of 4,288 bytes.
+    TableLength,
+    /// 103: a slot is not well formed, or two records have one handle.
+    TableNotWellFormed,
+    /// 104: the frame has fewer than 4 bytes, or is not 4 bytes and its body
+    /// length long.
+    NoFrame,
+}
+
+/// The request writer did not write: the buffer is as it was.
+#[derive(Clone, Copy, Debug, PartialEq, Eq, Hash)]
+pub enum WriteError {
+    /// 201: the frame does not fit into the buffer.
+    BufferShort,
+    /// 202: there are more than 8 hashes, or a payload that is not 1 to 4,096
+    /// bytes.
+    Fields,
+}
+
+/// 203: the bytes are not the frame of a reply.
+///
+/// The frame is not 4 bytes and its body length long, has another version than
+/// 1 or a status over 8, a body with a status that is not 0, or a body that is
+/// not of its kind's shape with status 0.
+#[derive(Clone, Copy, Debug, PartialEq, Eq, Hash)]
+pub struct ReadError;
+
+/// Any of these, for where one function does all three.
+#[derive(Clone, Copy, Debug, PartialEq, Eq, Hash)]
+pub enum Error {
+    /// The request cannot be written.
+    Write(WriteError),
+    /// The agent did not answer.
+    Call(CallError),
+    /// The reply cannot be read.
+    Read(ReadError),
+}
+
+impl CallError {
+    /// The number that the archive gives for it, 101 to 104.
+    pub const fn number(self) -> u16 {
+        match self {
+            CallError::ReplyBufferShort => 101,
+            CallError::TableLength => 102,
+            CallError::TableNotWellFormed => 103,
+            CallError::NoFrame => 104,
+        }
+    }
+
+    /// What a number of the archive's says.
+    pub(crate) fn of(number: u16) -> Result<(), CallError> {
+        Err(match number {
+            0 => return Ok(()),
+            101 => CallError::ReplyBufferShort,
+            102 => CallError::TableLength,
+            103 => CallError::TableNotWellFormed,
+            104 => CallError::NoFrame,
+            _ => unknown(number),
+        })
+    }
+}
+
+impl WriteError {
+    /// The number that the archive gives for it, 201 or 202.
+    pub const fn number(self) -> u16 {
+        match self {
+            WriteError::BufferShort => 201,
+            WriteError::Fields => 202,
+        }
+    }
+
+    /// What a number of the archive's says.
+    pub(crate) fn of(number: u16) -> Result<(), WriteError> {
+        Err(match number {
+            0 => return Ok(()),
+            201 => WriteError::BufferShort,
+            202 => WriteError::Fields,
+            _ => unknown(number),
+        })
+    }
+}
+
+impl ReadError {
+    /// The number that the archive gives for it, 203.
+    pub const fn number(self) -> u16 {
+        203
+    }
+
+    /// What a number of the archive's says.
+    pub(crate) fn of(number: u16) -> Result<(), ReadError> {
+        match number {
+            0 => Ok(()),
+            203 => Err(ReadError),
+            _ => unknown(number),
+        }
+    }
+}
+
+/// The archive is proved to give no other number than those above.
+fn unknown(number: u16) -> ! {
+    panic!("the archive gave {number}, which it never does: is it another version's?")
+}
+
+impl Error {
+    /// The number that the archive gives for it.
+    pub const fn number(self) -> u16 {
+        match self {
+            Error::Write(error) => error.number(),
+            Error::Call(error) => error.number(),
+            Error::Read(error) => error.number(),
+        }
+    }
+}
+
+impl fmt::Display for CallError {
+    fn fmt(&self, f: &mut fmt::Formatter<'_>) -> fmt::Result {
+        f.write_str(match self {
+            CallError::ReplyBufferShort => "the reply buffer has fewer than 4,279 bytes",
+            CallError::TableLength => "the table is not 1 to 15 slots of 4,288 bytes",
+            CallError::TableNotWellFormed => "the table is not well formed",
+            CallError::NoFrame => "the bytes are no frame: their length is not what they say",
+        })
+    }
+}
+
+impl fmt::Display for WriteError {
+    fn fmt(&self, f: &mut fmt::Formatter<'_>) -> fmt::Result {
+        f.write_str(match self {
+            WriteError::BufferShort => "the request does not fit into the buffer",
+            WriteError::Fields => {
+                "the request has more than 8 hashes, or a payload that is not 1 to 4,096 bytes"
+            }
+        })
+    }
+}
+
+impl fmt::Display for ReadError {
+    fn fmt(&self, f: &mut fmt::Formatter<'_>) -> fmt::Result {
+        f.write_str("the bytes are not the frame of a reply")
+    }
+}
+
+impl fmt::Display for Error {
+    fn fmt(&self, f: &mut fmt::Formatter<'_>) -> fmt::Result {
+        match self {
+            Error::Write(error) => error.fmt(f),
+            Error::Call(error) => error.fmt(f),
+            Error::Read(error) => error.fmt(f),
+        }
+    }
+}
+
+impl error::Error for CallError {}
+
+impl error::Error for WriteError {}
+
+impl error::Error for ReadError {}
+
+impl error::Error for Error {}
+
+impl From<CallError> for Error {
+    fn from(error: CallError) -> Error {
+        Error::Call(error)
+    }
+}
+
+impl From<WriteError> for Error {
+    fn from(error: WriteError) -> Error {
+        Error::Write(error)
+    }
+}
+
+impl From<ReadError> for Error {
+    fn from(error: ReadError) -> Error {
+        Error::Read(error)
+    }
+}

@@ -1,0 +1,113 @@
+//! The verified agent of a secure memory card, for Rust.
+//!
+//! A shop loads training courses onto cards as rights; the agent in the card
+//! keeps them in a table of slots, lends them, takes them back and removes
+//! them, by request frames. The agent, the request writer, the reply reader and
+//! the listing are proved code in an archive, `libcavernlull.a`; this crate
+//! gives them the types that Rust expects and adds nothing to what they do.
+//!
+//! | | |
+//! |---|---|
+//! | [`Card`] | a table of slots, and the agent that answers requests about it |
+//! | [`Request`] | a request of one of nine [kinds](Kind), and its frame |
+//! | [`Reply`] | what the card answered, read from the frame of a reply |
+//! | [`Listing`] | what is in the slots, as text |
+//! | [`Right`] | what a right holds: [`Key`], count, [hashes](AssetHash), payload |
+//! | [`CallError`], [`WriteError`], [`ReadError`] | what the agent, the writer and the reader refuse |
+//!
+//! # Example
+//!
+//! ```
+//! use cavernlull::{Card, Handle, Reply, Request, Right, Status, Verdict};
+//!
+//! # fn main() -> Result<(), cavernlull::Error> {
+//! let course = Handle([1; 10]);
+//! let lent = Handle([2; 10]);
+//! let right = Right {
+//!     payload: b"course".to_vec(),
+//!     ..Right::default()
+//! };
+//!
+//! let mut card = Card::blank(4);
+//! let setup = Request::InstallationSetup { handle: course, room: 6 };
+//! let installation = Request::RightsInstallation { handle: course, right };
+//! for request in [setup, installation] {
+//!     let reply = card.call(&request, Verdict::Held)?;
+//!     assert_eq!(reply.status(), Status::Success);
+//! }
+//!
+//! // The right is lent once. The second time, no right is under its handle.
+//! let lending = Request::RekQuery { handle: course, new_handle: lent };
+//! assert!(matches!(card.call(&lending, Verdict::Held)?, Reply::Key(_)));
+//! let again = card.call(&lending, Verdict::Held)?;
+//! assert_eq!(again.status(), Status::HandleNotFound);
+//! # Ok(())
+//! # }
+//! ```
+//!
+//! # How the archive is reached
+//!
+//! On x86-64 the archive is linked. `rt staticlib cavernlull` writes it to
+//! `target/staticlib`, where the build finds it; `CAVERNLULL_LIB_DIR` names
+//! another folder. Nothing but memory is needed then: no call allocates in the
+//! archive, blocks or has state of its own.
+//!
+//! The archive is x86-64 code, so on any other machine the same functions talk
+//! over a pipe to the *driver*, a program that calls the archive under the
+//! Rattle toolchain's emulator (`scripts/driver` builds it). That way is there
+//! for tests and demonstrations only: it is slow, it panics where there is no
+//! driver, and it takes no more than 131,072 bytes of one thing.
+
+#![deny(missing_docs)]
+#![deny(unsafe_code)]
+
+mod archive;
+mod card;
+mod error;
+mod kind;
+mod listing;
+mod reply;
+mod request;
+mod right;
+mod status;
+mod verdict;
+
+pub use card::Card;
+pub use error::{CallError, Error, ReadError, WriteError};
+pub use kind::Kind;
+pub use listing::Listing;
+pub use reply::Reply;
+pub use request::Request;
+pub use right::{AssetHash, Handle, Key, Right};
+pub use status::Status;
+pub use verdict::Verdict;
+
+/// The bytes of a slot.
+pub const SLOT_BYTES: usize = 4288;
+
+/// The most slots that a table has; the least is one.
+pub const MOST_SLOTS: usize = 15;
+
+/// The bytes of the longest reply, and of the least reply buffer.
+pub const REPLY_ROOM: usize = 4279;
+
+/// The bytes of the longest request.
+pub const REQUEST_ROOM: usize = 4289;
+
+/// The bytes of the longest payload; the least is one.
+pub const MOST_PAYLOAD: usize = 4096;
+
+/// The bytes of a handle.
+pub const HANDLE_BYTES: usize = 10;
+
+/// The bytes of a key.
+pub const KEY_BYTES: usize = 16;
+
+/// The bytes of an asset hash.
+pub const HASH_BYTES: usize = 20;
+
+/// The most asset hashes of a right, or of a query.
+pub const MOST_HASHES: usize = 8;
+
+/// The bytes of the longest listing.
+pub const LISTING_ROOM: usize = 406;

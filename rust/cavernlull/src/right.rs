@@ -1,0 +1,92 @@
+//! Rights, and the fixed strings of bytes that they have.
+
+use crate::{HANDLE_BYTES, HASH_BYTES, KEY_BYTES};
+use std::fmt;
+
+/// The handle that a record is under. Any ten bytes may be one.
+#[derive(Clone, Copy, Default, PartialEq, Eq, PartialOrd, Ord, Hash)]
+pub struct Handle(pub [u8; HANDLE_BYTES]);
+
+/// The hash of an asset that a right is for: 20 bytes (SHA-1).
+#[derive(Clone, Copy, Default, PartialEq, Eq, PartialOrd, Ord, Hash)]
+pub struct AssetHash(pub [u8; HASH_BYTES]);
+
+/// The key (REK) of a right. [`Debug`](fmt::Debug) does not show it.
+#[derive(Clone, Copy, Default, PartialEq, Eq)]
+pub struct Key(pub [u8; KEY_BYTES]);
+
+/// What a right holds, as it is installed and as it is retrieved.
+#[derive(Clone, Debug, Default, PartialEq, Eq)]
+pub struct Right {
+    /// The key.
+    pub key: Key,
+    /// The count; 0 says that the right keeps no count.
+    pub count: u16,
+    /// Up to 8 hashes of the assets that the right is for.
+    pub hashes: Vec<AssetHash>,
+    /// The payload, 1 to 4,096 bytes that nobody here looks into.
+    pub payload: Vec<u8>,
+}
+
+/// In hex.
+impl fmt::Display for Handle {
+    fn fmt(&self, f: &mut fmt::Formatter<'_>) -> fmt::Result {
+        write_hex(&self.0, f)
+    }
+}
+
+impl fmt::Debug for Handle {
+    fn fmt(&self, f: &mut fmt::Formatter<'_>) -> fmt::Result {
+        write!(f, "Handle({self})")
+    }
+}
+
+/// In hex.
+impl fmt::Display for AssetHash {
+    fn fmt(&self, f: &mut fmt::Formatter<'_>) -> fmt::Result {
+        write_hex(&self.0, f)
+    }
+}
+
+impl fmt::Debug for AssetHash {
+    fn fmt(&self, f: &mut fmt::Formatter<'_>) -> fmt::Result {
+        write!(f, "AssetHash({self})")
+    }
+}
+
+/// Only that it is a key: a log is no place for one.
+impl fmt::Debug for Key {
+    fn fmt(&self, f: &mut fmt::Formatter<'_>) -> fmt::Result {
+        f.write_str("Key(..)")
+    }
+}
+
+fn write_hex(bytes: &[u8], f: &mut fmt::Formatter<'_>) -> fmt::Result {
+    bytes.iter().try_for_each(|byte| write!(f, "{byte:02x}"))
+}
+
+#[cfg(test)]
+mod tests {
+    use super::*;
+
+    #[test]
+    fn handles_and_hashes_are_shown_in_hex() {
+        let handle = Handle([0, 1, 2, 0xA, 0xFF, 0x10, 6, 7, 8, 9]);
+        assert_eq!(handle.to_string(), "0001020aff1006070809");
+        assert_eq!(format!("{handle:?}"), "Handle(0001020aff1006070809)");
+        let hash = AssetHash([0xB7; 20]);
+        assert_eq!(hash.to_string(), "b7".repeat(20));
+        assert_eq!(format!("{hash:?}"), format!("AssetHash({hash})"));
+    }
+
+    #[test]
+    fn no_key_is_shown() {
+        let right = Right {
+            key: Key([0xEE; 16]),
+            ..Right::default()
+        };
+        assert_eq!(format!("{:?}", right.key), "Key(..)");
+        let shown = format!("{right:?} {right:#?}").to_lowercase();
+        assert!(!shown.contains("ee") && !shown.contains("238"), "{shown}");
+    }
+}

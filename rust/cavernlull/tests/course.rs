@@ -1,0 +1,232 @@
+//! One course on its way through a card: set up, installed, listed, lent,
+//! refused a second time and under a handle in use, returned, removed. After
+//! each step the whole table is held against bytes written by hand.
+
+use cavernlull::{AssetHash, Card, Handle, Key, Kind, Reply, Request, Right, Status, Verdict};
+use cavernlull::{HASH_BYTES, SLOT_BYTES};
+
+const COURSE: Handle = Handle([1; 10]);
+const OTHER: Handle = Handle([2; 10]);
+const BORROWER: Handle = Handle([3; 10]);
+
+const RESERVED: u8 = 1;
+const ENABLED: u8 = 2;
+const DISABLED: u8 = 3;
+
+fn right() -> Right {
+    Right {
+        key: Key([0xC5; 16]),
+        count: 0x0102,
+        hashes: vec![AssetHash([0xA1; 20]), AssetHash([0xA2; 20])],
+        payload: b"welding, level 2".to_vec(),
+    }
+}
+
+/// The bytes of a slot, by document 01's table.
+fn slot(place: u8, handle: Handle, right: &Right, length: usize) -> Vec<u8> {
+    let mut slot = vec![0; SLOT_BYTES];
+    slot[0] = place << 6 | (right.hashes.len() as u8) << 2;
+    slot[1..11].copy_from_slice(&handle.0);
+    slot[11..27].copy_from_slice(&right.key.0);
+    slot[27..29].copy_from_slice(&right.count.to_be_bytes());
+    slot[29..31].copy_from_slice(&(length as u16).to_be_bytes());
+    for (hash, bytes) in right.hashes.iter().zip(slot[31..].chunks_mut(HASH_BYTES)) {
+        bytes.copy_from_slice(&hash.0);
+    }
+    slot[192..192 + right.payload.len()].copy_from_slice(&right.payload);
+    slot
+}
+
+fn reserved(handle: Handle, length: usize) -> Vec<u8> {
+    slot(RESERVED, handle, &Right::default(), length)
+}
+
+fn held(place: u8, handle: Handle, right: &Right) -> Vec<u8> {
+    slot(place, handle, right, right.payload.len())
+}
+
+fn empty() -> Vec<u8> {
+    vec![0; SLOT_BYTES]
+}
+
+/// A card whose table is known at each step.
+struct Desk<T> {
+    card: Card<T>,
+}
+
+impl<T: AsRef<[u8]> + AsMut<[u8]>> Desk<T> {
+    /// Asks, and sees that the table is then just these slots.
+    fn ask(&mut self, request: Request, slots: &[Vec<u8>]) -> Reply {
+        let reply = self.card.call(&request, Verdict::Held).unwrap();
+        assert!(self.card.table() == slots.concat(), "after {request:?}");
+        assert_eq!(reply.kind_number(), request.kind().number());
+        reply
+    }
+
+    /// Asks for what is refused, and sees that nothing is changed.
+    fn refused(&mut self, request: Request, status: Status) {
+        let before = self.card.table().to_vec();
+        let kind = request.kind().number();
+        let reply = self.ask(request, &[before]);
+        assert_eq!(reply, Reply::Refused { kind, status });
+    }
+
+    fn list(&mut self, handles: &[Handle]) {
+        let before = self.card.table().to_vec();
+        let all = Request::HandleListQuery {
+            limit: 0,
+            hashes: vec![],
+        };
+        let handles = handles.to_vec();
+        let more = false;
+        assert_eq!(self.ask(all, &[before]), Reply::Handles { handles, more });
+    }
+}
+
+fn setup(handle: Handle, room: u16) -> Request {
+    Request::InstallationSetup { handle, room }
+}
+
+fn lend(handle: Handle, new_handle: Handle) -> Request {
+    Request::RekQuery { handle, new_handle }
+}
+
+fn walk<T: AsRef<[u8]> + AsMut<[u8]>>(card: Card<T>) -> Card<T> {
+    let mut desk = Desk { card };
+    desk.installs();
+    desk.lends();
+    desk.takes_back();
+    desk.moves_and_removes();
+    desk.card
+}
+
+impl<T: AsRef<[u8]> + AsMut<[u8]>> Desk<T> {
+    /// The course is set up and installed, and a second slot is reserved.
+    fn installs(&mut self) {
+        let reply = self.ask(setup(COURSE, 300), &[reserved(COURSE, 300), empty()]);
+        assert_eq!(reply, Reply::Done(Kind::InstallationSetup));
+        self.refused(setup(COURSE, 300), Status::DuplicateHandle);
+        self.list(&[]);
+
+        let (handle, right) = (COURSE, right());
+        let installed = held(ENABLED, COURSE, &right);
+        let installation = Request::RightsInstallation { handle, right };
+        let reply = self.ask(installation.clone(), &[installed.clone(), empty()]);
+        assert_eq!(reply, Reply::Done(Kind::RightsInstallation));
+        self.refused(installation, Status::UnexpectedRequest);
+        self.list(&[COURSE]);
+
+        self.ask(setup(OTHER, 1), &[installed, reserved(OTHER, 1)]);
+        assert_eq!(
+            self.card.listing().as_str(),
+            "slot place hashes count length\n0 enabled 2 258 16\n1 reserved 0 0 1\n"
+        );
+        self.refused(setup(BORROWER, 1), Status::NotEnoughSpace);
+    }
+
+    /// The course is lent once, and under no handle that is in use, "its own
+    /// included".
+    fn lends(&mut self) {
+        self.refused(lend(COURSE, OTHER), Status::DuplicateHandle);
+        self.refused(lend(COURSE, COURSE), Status::DuplicateHandle);
+        let lent = [held(DISABLED, BORROWER, &right()), reserved(OTHER, 1)];
+        let reply = self.ask(lend(COURSE, BORROWER), &lent);
+        assert_eq!(reply, Reply::Key(right().key));
+        self.refused(lend(COURSE, BORROWER), Status::HandleNotFound);
+        self.refused(lend(BORROWER, COURSE), Status::UnexpectedRequest);
+        self.list(&[]);
+    }
+
+    /// The course comes back; a return that is sent again changes nothing.
+    fn takes_back(&mut self) {
+        let handle = BORROWER;
+        let mut right = right();
+        right.count = 7;
+        let returned = [held(ENABLED, BORROWER, &right), reserved(OTHER, 1)];
+        for count in [7, 8] {
+            let reply = self.ask(Request::RightsEnablement { handle, count }, &returned);
+            assert_eq!(reply, Reply::Done(Kind::RightsEnablement));
+        }
+        self.list(&[BORROWER]);
+        let information = Request::RightsInformationQuery { handle };
+        let Right { count, payload, .. } = right;
+        let told = Reply::Information { count, payload };
+        assert_eq!(self.ask(information, &returned), told);
+    }
+
+    /// The course is moved off the card, and the reserved slot is given up.
+    fn moves_and_removes(&mut self) {
+        let mut right = right();
+        right.count = 7;
+        let moved = [held(DISABLED, COURSE, &right), reserved(OTHER, 1)];
+        let retrieval = Request::RightsRetrieval {
+            handle: BORROWER,
+            new_handle: COURSE,
+        };
+        assert_eq!(self.ask(retrieval, &moved), Reply::Right(right));
+
+        let removal = Request::RightsRemoval { handle: COURSE };
+        let reply = self.ask(removal.clone(), &[empty(), reserved(OTHER, 1)]);
+        assert_eq!(reply, Reply::Done(Kind::RightsRemoval));
+        self.refused(removal, Status::HandleNotFound);
+        let given_up = Request::HandleRemoval { handle: OTHER };
+        let reply = self.ask(given_up, &[empty(), empty()]);
+        assert_eq!(reply, Reply::Done(Kind::HandleRemoval));
+    }
+}
+
+#[test]
+fn a_course_goes_through_a_card_that_owns_its_table() {
+    let table = walk(Card::blank(2)).into_table();
+    assert!(table == vec![0; 2 * SLOT_BYTES]);
+}
+
+#[test]
+fn a_course_goes_through_a_card_over_a_lent_table() {
+    let mut memory = vec![0xEE; 4 * SLOT_BYTES];
+    let (_, rest) = memory.split_at_mut(SLOT_BYTES);
+    let (table, _) = rest.split_at_mut(2 * SLOT_BYTES);
+    table.fill(0);
+    walk(Card::over(table));
+    let around = [0xEE; SLOT_BYTES];
+    assert!(memory == [&around[..], &[0; 2 * SLOT_BYTES], &around].concat());
+}
+
+/// A limit in bytes cuts the list, and hashes choose from it.
+#[test]
+fn lists_are_cut_and_chosen() {
+    let mut card = Card::blank(3);
+    for n in 1..=3 {
+        let handle = Handle([n; 10]);
+        let mut right = right();
+        right.hashes.push(AssetHash([n; 20]));
+        for request in [
+            setup(handle, 300),
+            Request::RightsInstallation { handle, right },
+        ] {
+            assert_eq!(
+                card.call(&request, Verdict::Held).unwrap().status(),
+                Status::Success
+            );
+        }
+    }
+    let mut list = |limit, hashes: &[u8]| {
+        let hashes = hashes.iter().map(|&n| AssetHash([n; 20])).collect();
+        let query = Request::HandleListQuery { limit, hashes };
+        match card.call(&query, Verdict::Failed).unwrap() {
+            Reply::Handles { handles, more } => (handles.iter().map(|h| h.0[0]).collect(), more),
+            other => panic!("{other:?}"),
+        }
+    };
+    let mut expect = |limit, hashes: &[u8], handles: &[u8], more| {
+        assert_eq!(list(limit, hashes), (handles.to_vec(), more));
+    };
+    expect(0, &[], &[1, 2, 3], false);
+    expect(29, &[], &[1, 2], true);
+    expect(30, &[], &[1, 2, 3], false);
+    expect(9, &[], &[], true);
+    expect(0, &[3, 9, 1], &[1, 3], false);
+    expect(10, &[3, 9, 1], &[1], true);
+    expect(1, &[9], &[], false);
+    expect(0, &[0xA2], &[1, 2, 3], false);
+}

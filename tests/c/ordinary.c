@@ -1,0 +1,252 @@
+/* An ordinary C program that links libcavernlull.a, as a front end or a device does: one course on its way through a card of
+ * two slots. It is set up, installed, listed, lent, refused a second time and under a handle in use, returned and removed.
+ *
+ * Each step is held against what the header promises: the number, every byte of the reply buffer, every byte of the table,
+ * what the reply reader makes of the reply, and the listing. The expected bytes are written here by hand. The program says
+ * what does not hold and ends with 1, or says how many checks held and ends with 0.
+ */
+#include "cavernlull.h"
+
+#include <stdio.h>
+#include <stdlib.h>
+#include <string.h>
+
+enum { TABLE_BYTES = 2 * CAVERNLULL_SLOT_BYTES, REQUEST_ROOM = 4289, FILLER = 0xA5, KEY = 0xC5, PAYLOAD_AT = 192 };
+enum place { EMPTY, RESERVED, ENABLED, DISABLED };
+
+static const uint8_t none[16];
+static const uint8_t course[10] = {1, 1, 1, 1, 1, 1, 1, 1, 1, 1}, other[10] = {2, 2, 2, 2, 2, 2, 2, 2, 2, 2};
+static const uint8_t borrower[10] = {3, 3, 3, 3, 3, 3, 3, 3, 3, 3};
+static const uint8_t payload[] = {'w', 'e', 'l', 'd', 'i', 'n', 'g'};
+static uint8_t key[CAVERNLULL_KEY_BYTES], hashes[2 * CAVERNLULL_HASH_BYTES];
+
+static uint8_t table[TABLE_BYTES], expected[TABLE_BYTES];
+static uint8_t frame[REQUEST_ROOM], reply[CAVERNLULL_REPLY_ROOM + 1];
+static uint16_t fields[CAVERNLULL_REPLY_NUMBERS];
+static int checks;
+
+#define CHECK(that) check((that) != 0, #that, __LINE__)
+
+static void check(int holds, const char *that, int line) {
+    checks++;
+    if (holds) return;
+    printf("ordinary.c:%d: it does not hold that %s (check %d, with a frame of kind %d)\n", line, that, checks, frame[0] & 31);
+    exit(1);
+}
+
+static int filled(const uint8_t *bytes, size_t length, uint8_t byte) {
+    for (size_t i = 0; i < length; i++)
+        if (bytes[i] != byte) return 0;
+    return 1;
+}
+
+static size_t length_of(const uint8_t *one) { return 4 + (size_t)(one[2] << 8 | one[3]); }
+
+/* ---- a slot of the table that is expected, by document 01's table of bytes */
+static void put_slot(int index, enum place place, const uint8_t *handle, uint16_t count, uint16_t length) {
+    uint8_t *slot = expected + index * CAVERNLULL_SLOT_BYTES;
+    int right = place == ENABLED || place == DISABLED;
+    memset(slot, 0, CAVERNLULL_SLOT_BYTES);
+    slot[0] = (uint8_t)(place << 6 | (right ? 2 << 2 : 0));
+    memcpy(slot + 1, handle, sizeof course);
+    slot[27] = (uint8_t)(count >> 8);
+    slot[28] = (uint8_t)count;
+    slot[29] = (uint8_t)(length >> 8);
+    slot[30] = (uint8_t)length;
+    if (!right) return;
+    memcpy(slot + 11, key, sizeof key);
+    memcpy(slot + 31, hashes, sizeof hashes);
+    memcpy(slot + PAYLOAD_AT, payload, sizeof payload);
+}
+
+static void put_right(enum place place, const uint8_t *handle, uint16_t count) {
+    put_slot(0, place, handle, count, sizeof payload);
+}
+
+/* ---- requests: each writes a frame */
+static void write_plain(uint8_t kind, const uint8_t *handle, const uint8_t *new_handle, uint16_t room, uint16_t count) {
+    CHECK(cavernlull_write_request(kind, handle, new_handle, none, room, count, 0, none, 0, none, 0, frame,
+                                   sizeof frame) == CAVERNLULL_DONE);
+}
+
+static void write_installation(const uint8_t *handle, uint16_t count) {
+    CHECK(cavernlull_write_request(CAVERNLULL_RIGHTS_INSTALLATION, handle, none, key, 0, count, 0, hashes, sizeof hashes,
+                                   payload, sizeof payload, frame, sizeof frame) == CAVERNLULL_DONE);
+}
+
+static void write_list(uint16_t limit) {
+    CHECK(cavernlull_write_request(CAVERNLULL_HANDLE_LIST_QUERY, none, none, none, 0, 0, limit, none, 0, none, 0, frame,
+                                   sizeof frame) == CAVERNLULL_DONE);
+}
+
+/* ---- the call: number, status, body, the rest of the buffer, the table, and what the reply reader makes of the reply */
+static void call(uint8_t status, const uint8_t *body, size_t body_length) {
+    uint8_t sent_key[CAVERNLULL_KEY_BYTES];
+    memset(reply, FILLER, sizeof reply);
+    CHECK(cavernlull_call(table, sizeof table, frame, length_of(frame), reply, sizeof reply) == CAVERNLULL_DONE);
+    CHECK(reply[0] == frame[0]);
+    CHECK(reply[1] == status);
+    CHECK(length_of(reply) == 4 + body_length);
+    CHECK(memcmp(reply + 4, body, body_length) == 0);
+    CHECK(filled(reply + 4 + body_length, sizeof reply - 4 - body_length, FILLER));
+    CHECK(memcmp(table, expected, sizeof table) == 0);
+    CHECK(cavernlull_read_reply(reply, length_of(reply), sent_key, fields) == CAVERNLULL_DONE);
+    CHECK(fields[CAVERNLULL_REPLY_KIND] == (frame[0] & 31));
+    CHECK(fields[CAVERNLULL_REPLY_STATUS] == status);
+    int has_key = status == CAVERNLULL_SUCCESS && (reply[0] == 0x23 || reply[0] == 0x24);
+    CHECK(memcmp(sent_key, has_key ? key : none, sizeof sent_key) == 0);
+}
+
+static void done(void) { call(CAVERNLULL_SUCCESS, none, 0); }
+
+static void refused(uint8_t status) { call(status, none, 0); }
+
+static void listed(const char *lines) {
+    static const char header[] = "slot place hashes count length\n";
+    uint8_t out[CAVERNLULL_LISTING_ROOM];
+    memset(out, FILLER, sizeof out);
+    size_t length = cavernlull_list(table, sizeof table, out), head = sizeof header - 1;
+    CHECK(length == head + strlen(lines));
+    CHECK(memcmp(out, header, head) == 0);
+    CHECK(memcmp(out + head, lines, strlen(lines)) == 0);
+    CHECK(filled(out + length, sizeof out - length, FILLER));
+}
+
+/* ---- the course */
+static void installs(void) {
+    write_plain(CAVERNLULL_INSTALLATION_SETUP, course, none, 300, 0);
+    static const uint8_t written[] = {0x21, 0x80, 0, 12, 1, 1, 1, 1, 1, 1, 1, 1, 1, 1, 300 >> 8, 300 & 255};
+    CHECK(memcmp(frame, written, sizeof written) == 0);
+    frame[1] = 0; /* the front end: the MAC did not hold */
+    refused(CAVERNLULL_FIELD_INTEGRITY_VERIFICATION_FAILED);
+    frame[1] = 0x80;
+    put_slot(0, RESERVED, course, 0, 300);
+    done();
+    refused(CAVERNLULL_DUPLICATE_HANDLE);
+    listed("0 reserved 0 0 300\n1 empty 0 0 0\n");
+    write_installation(other, 9);
+    refused(CAVERNLULL_HANDLE_NOT_FOUND);
+    write_installation(course, 9);
+    put_right(ENABLED, course, 9);
+    done();
+    refused(CAVERNLULL_UNEXPECTED_REQUEST);
+    write_plain(CAVERNLULL_INSTALLATION_SETUP, other, none, 1, 0);
+    put_slot(1, RESERVED, other, 0, 1);
+    done();
+    write_plain(CAVERNLULL_INSTALLATION_SETUP, borrower, none, 1, 0);
+    refused(CAVERNLULL_NOT_ENOUGH_SPACE);
+    listed("0 enabled 2 9 7\n1 reserved 0 0 1\n");
+}
+
+static void lists(const uint8_t *handle) {
+    uint8_t body[1 + CAVERNLULL_HANDLE_BYTES] = {0x80}; /* more, and no handle */
+    write_list(9);
+    call(CAVERNLULL_SUCCESS, body, 1);
+    CHECK(fields[CAVERNLULL_REPLY_MORE] == 1 && fields[CAVERNLULL_REPLY_HANDLES] == 0);
+    body[0] = 0;
+    memcpy(body + 1, handle, CAVERNLULL_HANDLE_BYTES);
+    write_list(10);
+    call(CAVERNLULL_SUCCESS, body, sizeof body);
+    CHECK(fields[CAVERNLULL_REPLY_MORE] == 0 && fields[CAVERNLULL_REPLY_HANDLES] == 1);
+    CHECK(memcmp(reply + fields[CAVERNLULL_REPLY_HANDLES_AT], handle, CAVERNLULL_HANDLE_BYTES) == 0);
+}
+
+static void lends(void) {
+    write_plain(CAVERNLULL_REK_QUERY, course, other, 0, 0);
+    refused(CAVERNLULL_DUPLICATE_HANDLE);
+    write_plain(CAVERNLULL_REK_QUERY, course, course, 0, 0);
+    refused(CAVERNLULL_DUPLICATE_HANDLE);
+    write_plain(CAVERNLULL_REK_QUERY, course, borrower, 0, 0);
+    put_right(DISABLED, borrower, 9);
+    call(CAVERNLULL_SUCCESS, key, sizeof key);
+    refused(CAVERNLULL_HANDLE_NOT_FOUND);
+    write_plain(CAVERNLULL_REK_QUERY, borrower, course, 0, 0);
+    refused(CAVERNLULL_UNEXPECTED_REQUEST);
+    write_list(0);
+    call(CAVERNLULL_SUCCESS, none, 1);
+    listed("0 disabled 2 9 7\n1 reserved 0 0 1\n");
+}
+
+/* A return whose reply was lost is sent again, with another count, and changes nothing. */
+static void takes_back(void) {
+    write_plain(CAVERNLULL_RIGHTS_ENABLEMENT, borrower, none, 0, 8);
+    put_right(ENABLED, borrower, 8);
+    done();
+    write_plain(CAVERNLULL_RIGHTS_ENABLEMENT, borrower, none, 0, 7);
+    done();
+    uint8_t body[2 + sizeof payload] = {0, 8};
+    memcpy(body + 2, payload, sizeof payload);
+    write_plain(CAVERNLULL_RIGHTS_INFORMATION_QUERY, borrower, none, 0, 0);
+    call(CAVERNLULL_SUCCESS, body, sizeof body);
+    CHECK(fields[CAVERNLULL_REPLY_COUNT] == 8 && fields[CAVERNLULL_REPLY_PAYLOAD_LENGTH] == sizeof payload);
+    CHECK(memcmp(reply + fields[CAVERNLULL_REPLY_PAYLOAD_AT], payload, sizeof payload) == 0);
+}
+
+static void removes(void) {
+    uint8_t body[16 + 2 + 1 + sizeof hashes + sizeof payload];
+    memcpy(body, key, sizeof key);
+    memcpy(body + 16, (uint8_t[]){0, 8, 2 << 4}, 3);
+    memcpy(body + 19, hashes, sizeof hashes);
+    memcpy(body + 19 + sizeof hashes, payload, sizeof payload);
+    write_plain(CAVERNLULL_RIGHTS_RETRIEVAL, borrower, course, 0, 0);
+    put_right(DISABLED, course, 8);
+    call(CAVERNLULL_SUCCESS, body, sizeof body);
+    CHECK(fields[CAVERNLULL_REPLY_HASHES] == 2);
+    CHECK(memcmp(reply + fields[CAVERNLULL_REPLY_HASHES_AT], hashes, sizeof hashes) == 0);
+    CHECK(memcmp(reply + fields[CAVERNLULL_REPLY_PAYLOAD_AT], payload, sizeof payload) == 0);
+    write_plain(CAVERNLULL_RIGHTS_REMOVAL, course, none, 0, 0);
+    memset(expected, 0, CAVERNLULL_SLOT_BYTES);
+    done();
+    refused(CAVERNLULL_HANDLE_NOT_FOUND);
+    write_plain(CAVERNLULL_HANDLE_REMOVAL, other, none, 0, 0);
+    memset(expected, 0, sizeof expected);
+    done();
+    listed("0 empty 0 0 0\n1 empty 0 0 0\n");
+}
+
+/* ---- what is refused leaves all lent memory as it was */
+static void call_refused(uint16_t number, size_t table_length, size_t frame_length, size_t reply_length) {
+    memset(reply, FILLER, sizeof reply);
+    CHECK(cavernlull_call(table, table_length, frame, frame_length, reply, reply_length) == number);
+    CHECK(filled(reply, sizeof reply, FILLER));
+    CHECK(memcmp(table, expected, sizeof table) == 0);
+}
+
+static void refusals(void) {
+    write_plain(CAVERNLULL_INSTALLATION_SETUP, course, none, 5, 0);
+    call_refused(CAVERNLULL_REPLY_BUFFER_SHORT, 1, 3, CAVERNLULL_REPLY_ROOM - 1);
+    call_refused(CAVERNLULL_TABLE_LENGTH, 0, 3, CAVERNLULL_REPLY_ROOM);
+    call_refused(CAVERNLULL_TABLE_LENGTH, TABLE_BYTES - 1, 16, CAVERNLULL_REPLY_ROOM);
+    call_refused(CAVERNLULL_NO_FRAME, TABLE_BYTES, 3, CAVERNLULL_REPLY_ROOM);
+    call_refused(CAVERNLULL_NO_FRAME, TABLE_BYTES, 15, CAVERNLULL_REPLY_ROOM);
+    table[TABLE_BYTES - 1] = expected[TABLE_BYTES - 1] = 1; /* an empty slot that is not empty */
+    call_refused(CAVERNLULL_TABLE_NOT_WELL_FORMED, TABLE_BYTES, 3, CAVERNLULL_REPLY_ROOM);
+    table[TABLE_BYTES - 1] = expected[TABLE_BYTES - 1] = 0;
+    memset(frame, FILLER, sizeof frame);
+    CHECK(cavernlull_write_request(CAVERNLULL_RIGHTS_REMOVAL, course, none, none, 0, 0, 0, none, 0, none, 0, frame, 13) ==
+          CAVERNLULL_WRITER_BUFFER_SHORT);
+    CHECK(cavernlull_write_request(CAVERNLULL_RIGHTS_REMOVAL, course, none, none, 1, 0, 0, none, 0, none, 0, frame, 13) ==
+          CAVERNLULL_WRITER_FIELDS);
+    CHECK(cavernlull_write_request(10, none, none, none, 0, 0, 0, none, 0, none, 0, frame, 13) == CAVERNLULL_WRITER_FIELDS);
+    CHECK(filled(frame, sizeof frame, FILLER));
+    uint8_t kept[CAVERNLULL_KEY_BYTES];
+    memset(kept, FILLER, sizeof kept);
+    memset(fields, FILLER, sizeof fields);
+    CHECK(cavernlull_read_reply((const uint8_t[]){0x21, 9, 0, 0}, 4, kept, fields) == CAVERNLULL_NO_REPLY);
+    CHECK(filled(kept, sizeof kept, FILLER) && fields[0] == 0xA5A5 && fields[CAVERNLULL_REPLY_NUMBERS - 1] == 0xA5A5);
+}
+
+int main(void) {
+    memset(key, KEY, sizeof key);
+    memset(hashes, 0xA1, CAVERNLULL_HASH_BYTES);
+    memset(hashes + CAVERNLULL_HASH_BYTES, 0xA2, CAVERNLULL_HASH_BYTES);
+    installs();
+    lists(course);
+    lends();
+    takes_back();
+    lists(borrower);
+    removes();
+    refusals();
+    printf("ordinary: %d checks hold\n", checks);
+    return 0;
+}

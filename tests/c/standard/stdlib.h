@@ -1,0 +1,7 @@
+/* What ordinary.c needs of the standard header, where the machine's own is for another processor. */
+#ifndef STDLIB_H
+#define STDLIB_H
+
+_Noreturn void exit(int status);
+
+#endif
