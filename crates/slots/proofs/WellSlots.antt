@@ -7,13 +7,16 @@ use native.Mathlib.Omega.{arith}
 use borrow.Author.Tests.{lt-leb, le-leb}
 use lib.Dec.{eqb, leb, ltb}
 use lib.ListN.{length, getD, take, drop, length-drop}
-use lib.Seq.{take-all}
+use lib.Seq.{take-all, drop-drop}
 use Rattle.profile.specs.Bytes.{Bytes, byte, part, word, allZero}
 use Rattle.profile.specs.Table.{placeOf, hashCountOf, spareOf, wellPlaced, wellSlot}
 use Rattle.profile.proofs.Logic.{both, and-parts, eqb-eq, from-1-to-says}
 use Rattle.profile.proofs.Strings.{zero-drop}
 use Rattle.profile.proofs.Unpack.{well-slot, well-reserved}
-use Rattle.slots.specs.Taken.{wellTaken}
+use Rattle.slots.specs.declared.place.Place.{Place}
+use Rattle.slots.specs.declared.place.Place.the-variants.{Empty, Reserved, Enabled, Disabled}
+use Rattle.slots.specs.Places.{placeNumber}
+use Rattle.slots.specs.Taken.{payloadIn, awaitsWell}
 
 -- ---- zero bytes
 -- each of some zero bytes is 0, and so is a part of them
@@ -31,57 +34,68 @@ zero-take (suc n) (x ∷ s) z =
 
 module _ (s : Bytes) where
   -- ---- by place
-  pub well-empty : placeOf s ≡ 0 → wellSlot s ≡ allZero s
+  pub empty-slot : placeOf s ≡ 0 → wellSlot s ≡ allZero s
   unfolding wellSlot
-  well-empty at = go (allZero s) refl
+  empty-slot at = go (allZero s) refl
     where
       go : (b : Bool) → allZero s ≡ b → wellSlot s ≡ b
       go true z =
           rw (at, z, zero-byte s 0 z, zero-byte s 191 z, zero-drop (192 + word 29 s) s z, zero-take 160 (drop 31 s) (zero-drop 31 s z))
       go false z = rw (at, z, and-false)
 
-  pub well-reserved-slot : placeOf s ≡ 1 → wellSlot s ≡ (wellTaken s && eqb (hashCountOf s) 0 && allZero (part 11 18 s) && allZero (drop 192 s))
-  unfolding wellSlot wellTaken
-  well-reserved-slot at = rw at (simp and-assoc)
-
-  pub well-right-slot : (n : ℕ) → placeOf s ≡ suc (suc n) → wellSlot s ≡ wellTaken s
-  unfolding wellSlot wellTaken
-  well-right-slot n at = rw at
-
   -- ---- the two bounds
-  pub too-many-hashes : 8 < hashCountOf s → wellTaken s ≡ false
-  unfolding wellTaken
+  pub too-many-hashes : 8 < hashCountOf s → wellSlot s ≡ false
+  unfolding wellSlot
   too-many-hashes h = rw (lt-leb (hashCountOf s) 8 h, and-false)
 
-  pub too-long : 4096 < word 29 s → wellTaken s ≡ false
-  unfolding wellTaken
-  too-long h = rw (lt-leb (word 29 s) 4096 h, and-false, and-false)
+  pub too-long : 0 < placeOf s → 4096 < word 29 s → wellSlot s ≡ false
+  unfolding wellSlot
+  too-long taken h = go (placeOf s) refl
+    where
+      go : (p : ℕ) → placeOf s ≡ p → wellSlot s ≡ false
+      go zero at = absurd (omega (arith, taken, at))
+      go (suc zero) at = rw (at, lt-leb (word 29 s) 4096 h) (simp and-false)
+      go (suc (suc n)) at = rw (at, lt-leb (word 29 s) 4096 h) (simp and-false)
 
 module _ (s : Bytes) (len-s : length s ≡ 4288) where
   -- the part up to the slot's end is all that is left
   pub zero-tail : (at : ℕ) → allZero (part at (4288 - at) s) ≡ allZero (drop at s)
   zero-tail at = ap allZero (take-all (4288 - at) (drop at s) (rw (length-drop at s) (omega arith)))
 
-  -- the tests that are left where the two bounds hold
-  pub taken-parts : (hashes len spare : ℕ) (gap rest : Bool) → hashes ≡ hashCountOf s → len ≡ word 29 s → hashes ≤ 8 → len ≤ 4096
+  -- the tests that are left where the two bounds hold, by place
+  pub taken-parts : (p : Place) (hashes len spare : ℕ) (gap rest awaits : Bool) → placeNumber p ≡ placeOf s → 0 < placeOf s
+      → hashes ≡ hashCountOf s → len ≡ word 29 s → hashes ≤ 8 → len ≤ 4096
       → spare ≡ spareOf s
       → gap ≡ allZero (part (31 + 20 * hashes) (191 - (31 + 20 * hashes)) s)
-      → rest ≡ allZero (part (192 + len) (4288 - (192 + len)) s)
-      → (eqb spare 0 && eqb (byte 191 s) 0 && gap && rest && ltb 0 len) ≡ wellTaken s
-  unfolding wellTaken
-  taken-parts hashes len spare gap rest e-hashes e-len few short e-spare e-gap e-rest =
-      let few' : leb (hashCountOf s) 8 ≡ true = le-leb (hashCountOf s) 8 (rw e-hashes at few) in
-      let short' : leb (word 29 s) 4096 ≡ true = le-leb (word 29 s) 4096 (rw e-len at short) in
-      let e : 191 - (31 + 20 * hashes) ≡ 160 - 20 * hashes = omega arith in
-      let g : gap ≡ allZero (part (31 + 20 * hashCountOf s) (160 - 20 * hashCountOf s) s) = rw (e, e-hashes) at e-gap in
-      let r : rest ≡ allZero (drop (192 + word 29 s) s) = rw e-len at (e-rest ∙ zero-tail (192 + len)) in
-      rw (e-spare, g, r, e-len, few', short') (simp and-true)
+      → rest ≡ allZero (part (192 + payloadIn p len) (4288 - (192 + payloadIn p len)) s)
+      → awaits ≡ awaitsWell p hashes s
+      → (eqb spare 0 && eqb (byte 191 s) 0 && gap && rest && ltb 0 len && awaits) ≡ wellSlot s
+  unfolding wellSlot
+  taken-parts p hashes len spare gap rest awaits at taken e-hashes e-len few short e-spare e-gap e-rest e-awaits =
+      go p at (e-rest ∙ zero-tail (192 + payloadIn p len)) e-awaits
+    where
+      few' : leb (hashCountOf s) 8 ≡ true
+      few' = le-leb (hashCountOf s) 8 (rw e-hashes at few)
 
-  -- the tests of a reserved slot
-  pub reserved-parts : (hashes : ℕ) (taken key payload : Bool) → placeOf s ≡ 1 → hashes ≡ hashCountOf s → taken ≡ wellTaken s
-      → key ≡ allZero (part 11 18 s) → payload ≡ allZero (part 192 4096 s)
-      → (taken && eqb hashes 0 && key && payload) ≡ wellSlot s
-  reserved-parts hashes taken key payload at h t k p = rw (h, t, k, p, zero-tail 192) (sym (well-reserved-slot s at))
+      short' : leb (word 29 s) 4096 ≡ true
+      short' = le-leb (word 29 s) 4096 (rw e-len at short)
+
+      g : gap ≡ allZero (part (31 + 20 * hashCountOf s) (160 - 20 * hashCountOf s) s)
+      g = let e : 191 - (31 + 20 * hashes) ≡ 160 - 20 * hashes = omega arith in rw (e, e-hashes) at e-gap
+
+      go : (p : Place) → placeNumber p ≡ placeOf s → rest ≡ allZero (drop (192 + payloadIn p len) s) → awaits ≡ awaitsWell p hashes s
+          → (eqb spare 0 && eqb (byte 191 s) 0 && gap && rest && ltb 0 len && awaits) ≡ wellSlot s
+      go Empty q r w = absurd (omega (arith, taken, q))
+      go Enabled q r w = rw (sym q, e-spare, g, rw e-len at r, w, e-len, few', short') (simp and-true)
+      go Disabled q r w = rw (sym q, e-spare, g, rw e-len at r, w, e-len, few', short') (simp and-true)
+      go Reserved q r w = split (allZero (drop 192 s)) refl
+        where
+          split : (b : Bool) → allZero (drop 192 s) ≡ b
+              → (eqb spare 0 && eqb (byte 191 s) 0 && gap && rest && ltb 0 len && awaits) ≡ wellSlot s
+          split true z =
+              let t : allZero (drop (192 + word 29 s) s) ≡ true = rw (drop-drop (word 29 s) 192 s) at (zero-drop (word 29 s) (drop 192 s) z) in
+              rw (sym q, e-spare, g, r, w, e-len, e-hashes, z, t, few', short') (simp (and-true, and-assoc))
+          split false z = rw (sym q, r, z) (simp and-false)
 
 -- ---- what holds in a well-formed slot
 module _ (s : Bytes) (well : wellSlot s ≡ true) where
@@ -105,5 +119,5 @@ module _ (s : Bytes) (well : wellSlot s ≡ true) where
   length-most-4096 = go (placeOf s) refl
     where
       go : (p : ℕ) → placeOf s ≡ p → word 29 s ≤ 4096
-      go zero at = let z : allZero s ≡ true = sym (well-empty s at) ∙ well in omega (arith, zero-byte s 29 z, zero-byte s 30 z)
+      go zero at = let z : allZero s ≡ true = sym (empty-slot s at) ∙ well in omega (arith, zero-byte s 29 z, zero-byte s 30 z)
       go (suc p) at = length-1-to-4096 (λ e. omega (arith, e)) .1

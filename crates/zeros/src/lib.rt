@@ -17,27 +17,50 @@ fn zero_block(s: &[u8]) -> bool
     acc == 0
 }
 
-// "Empty: all 4,288 bytes are 0." Blocks of 256 bytes, and an exit behind each that has a byte other than 0.
+// "Empty: all 4,288 bytes are 0." Blocks of 512 bytes, and an exit behind each that has a byte other than 0.
 pub fn all_zero(s: &[u8]) -> bool
     ensures { λ r. ⌜ r ≡ allZero (now (s .entry)) ⌝ }
 {
-    let mut at = 0;
-    while 256 <= s.len() - at {
-        let e = at + 256;
-        if !zero_block(&s[at..e]) {
+    let mut rest = s;
+    while 512 <= rest.len() {
+        if !zero_block(&rest[0..512]) {
             return false;
         }
-        at = e;
+        rest = &rest[512..];
     }
-    zero_block(&s[at..])
+    zero_block(rest)
 }
 
-// "hash bytes beyond the count and payload bytes beyond the length are 0": a part of a slot.
+// Some bytes: blocks of 64, and then the last 64 bytes once more, with those that no block had.
+fn zero_rest(s: &[u8]) -> bool
+    ensures { λ r. ⌜ r ≡ allZero (now (s .entry)) ⌝ }
+{
+    if s.len() < 64 {
+        return zero_block(s);
+    }
+    let mut rest = s;
+    while 64 <= rest.len() {
+        if !zero_block(&rest[0..64]) {
+            return false;
+        }
+        rest = &rest[64..];
+    }
+    zero_block(&s[s.len() - 64..])
+}
+
+// "hash bytes beyond the count and payload bytes beyond the length are 0": a part of a slot, of any length.
 pub fn zero_part(s: &[u8], from: usize, to: usize) -> bool
     requires { ⌜ (from ≤ to) × (to ≤ length (now s)) ⌝ }
     ensures { λ r. ⌜ r ≡ allZero (part from (to - from) (now (s .entry))) ⌝ }
 {
-    all_zero(&s[from..to])
+    let mut rest = &s[from..to];
+    while 512 <= rest.len() {
+        if !zero_block(&rest[0..512]) {
+            return false;
+        }
+        rest = &rest[512..];
+    }
+    zero_rest(rest)
 }
 
 // "All bytes of the slot become 0": all of what is lent.

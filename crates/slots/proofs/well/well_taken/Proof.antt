@@ -15,7 +15,10 @@ returns c =
 returns-2 : tie.Need-returns-2
 returns-2 c =
     let a = c .before .before .before in
-    sym (too-long (now (a .args .s)) (omega (arith, a .pre .1 .length-is, c .if2 .taken)))
+    sym (too-long (now (a .args .s)) (a .pre .2) (omega (arith, a .pre .1 .length-is, c .if2 .taken)))
+
+payload-in-requires : tie.Need-payload-in-requires
+payload-in-requires c κs = search needs
 
 shared-slice-read-slot-spare : tie.Need-shared-slice-read-slot-spare
 shared-slice-read-slot-spare c = search needs
@@ -38,15 +41,19 @@ add-zero-part-2 c = search needs
 zero-part-requires-2 : tie.Need-zero-part-requires-2
 zero-part-requires-2 c κs = search needs
 
+awaits-well-requires : tie.Need-awaits-well-requires
+awaits-well-requires c κs = search needs
+
 shared-slice-read-result : tie.Need-shared-slice-read-result
 shared-slice-read-result c = search needs
 
 returns-3 : tie.Need-returns-3
 returns-3 c =
-    let a = c .before .before .before .before .before .before .before .before in
-    taken-parts (now (a .args .s)) (a .pre .0) (a .args .head .hashes) (a .args .head .length) _ _ _
-    (a .pre .1 .hashes-are) (a .pre .1 .length-is) (c .before .before .before .before .before .before .if1 .left) (c .before .before .before .before .before .if2 .left)
-    (c .before .before .before .slot-spare .ensures) (c .before .before .zero-part .ensures) (c .before .zero-part2 .ensures)
+    let a = c .before .before .before .before .before .before .before .before .before .before in
+    let h = a .pre .1 in
+    taken-parts (now (a .args .s)) (a .pre .0) (a .args .head .place) (a .args .head .hashes) (a .args .head .length) _ _ _ _
+    (h .place-is) (a .pre .2) (h .hashes-are) (h .length-is) (c .before .before .before .before .before .before .before .before .if1 .left) (c .before .before .before .before .before .before .before .if2 .left)
+    (c .before .before .before .before .slot-spare .ensures) (c .before .before .before .zero-part .ensures) (rw (c .before .before .before .before .before .before .payload-in .ensures .0) at (c .before .before .zero-part2 .ensures)) (c .before .awaits-well .ensures)
 
 pub well-taken-spec : {M : Type 1} → statement M
 well-taken-spec =
@@ -54,6 +61,7 @@ well-taken-spec =
     (tie.spec
     returns
     returns-2
+    payload-in-requires
     shared-slice-read-slot-spare
     slot-spare-requires
     mul-zero-part
@@ -61,5 +69,6 @@ well-taken-spec =
     zero-part-requires
     add-zero-part-2
     zero-part-requires-2
+    awaits-well-requires
     shared-slice-read-result
     returns-3)
