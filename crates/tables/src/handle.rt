@@ -7,15 +7,19 @@ ghost use Rattle.profile.specs.Slot.{named, inUse};
 ghost use Rattle.profile.specs.Table.{unpack, slotCount, slotsOf};
 ghost use Rattle.tables.specs.LookUp.{firstUnder};
 
-// "all but empty have a handle": an empty slot is under none, its ten zero bytes included.
+// "all but empty have a handle": an empty slot is under none, its ten zero bytes included. Its place is looked at last, since
+// most slots differ from a handle in its first byte.
 fn is_under(s: &[u8], h: &[u8]) -> bool
     requires { ⌜ (length (now s) ≡ 4288) × (length (now h) ≡ 10) ⌝ }
     ensures { λ r. ⌜ r ≡ named (now (h .entry)) (unpack (now (s .entry))) ⌝ }
 {
+    if !octets::compare::same_from(h, s, 1) {
+        return false;
+    }
     if bits::fields::slot_place(s[0]) == 0 {
         return false;
     }
-    octets::compare::same_from(h, s, 1)
+    true
 }
 
 // The first slot under a handle, looking from slot `from` on; the number of slots where there is none.
