@@ -1,0 +1,234 @@
+/* The card agent of document 01 in C, to measure the proved one against. It is written for speed, as a C programmer would
+ * write it: zero checks that become vector code, memcmp for handles and hashes, memcpy and memset for the rest.
+ *
+ * It is compiled once for each compiler and optimisation level; AGENT names the function.
+ */
+#include <stddef.h>
+#include <stdint.h>
+
+#define bool _Bool
+#define true 1
+#define false 0
+
+/* As <string.h> has them: the compiler knows them, and no header of a machine is needed. */
+int memcmp(const void *a, const void *b, size_t length);
+void *memcpy(void *restrict to, const void *restrict from, size_t length);
+void *memset(void *to, int byte, size_t length);
+
+enum { SLOT = 4288, SLOTS = 15, HANDLE = 10, KEY = 16, HASH = 20, HASHES = 8, PAYLOAD = 4096, REPLY = 4279, BLOCK = 512 };
+enum { AT_HANDLE = 1, AT_KEY = 11, AT_COUNT = 27, AT_LENGTH = 29, AT_HASHES = 31, AT_ZERO = 191, AT_PAYLOAD = 192 };
+enum { EMPTY, RESERVED, ENABLED, DISABLED };
+enum { SUCCESS, INTEGRITY, PARAMETER, UNSUPPORTED, NOT_FOUND, DUPLICATE, UNEXPECTED, NO_SPACE, TWO_RECORDS };
+
+/* ---- bytes */
+static unsigned word(const uint8_t *s) { return (unsigned)s[0] << 8 | s[1]; }
+
+static void put_word(uint8_t *s, unsigned n) {
+    s[0] = (uint8_t)(n >> 8);
+    s[1] = (uint8_t)n;
+}
+
+static bool zero_block(const uint8_t *s, size_t n) {
+    uint8_t any = 0;
+    for (size_t i = 0; i < n; i++) any |= s[i];
+    return any == 0;
+}
+
+static bool all_zero(const uint8_t *s, size_t n) {
+    for (; n >= BLOCK; s += BLOCK, n -= BLOCK)
+        if (!zero_block(s, BLOCK)) return false;
+    return zero_block(s, n);
+}
+
+/* ---- slots */
+static unsigned place_of(const uint8_t *s) { return s[0] >> 6; }
+static unsigned hashes_of(const uint8_t *s) { return s[0] >> 2 & 15; }
+
+static bool well_slot(const uint8_t *s) {
+    unsigned place = place_of(s), hashes = hashes_of(s), length = word(s + AT_LENGTH);
+    if (place == EMPTY) return all_zero(s, SLOT);
+    if (hashes > HASHES || length == 0 || length > PAYLOAD || (s[0] & 3) || s[AT_ZERO]) return false;
+    if (place == RESERVED)
+        return hashes == 0 && all_zero(s + AT_KEY, AT_LENGTH - AT_KEY) && all_zero(s + AT_HASHES, SLOT - AT_HASHES);
+    size_t used = AT_HASHES + HASH * hashes, end = AT_PAYLOAD + length;
+    return all_zero(s + used, AT_ZERO - used) && all_zero(s + end, SLOT - end);
+}
+
+static bool under(const uint8_t *s, const uint8_t *handle) {
+    return place_of(s) != EMPTY && memcmp(s + AT_HANDLE, handle, HANDLE) == 0;
+}
+
+/* The first slot at or behind one under a handle; the end where there is none. */
+static uint8_t *find(uint8_t *s, const uint8_t *end, const uint8_t *handle) {
+    while (s < end && !under(s, handle)) s += SLOT;
+    return s;
+}
+
+static bool well_table(uint8_t *table, uint8_t *end) {
+    for (uint8_t *s = table; s < end; s += SLOT)
+        if (!well_slot(s)) return false;
+    for (uint8_t *s = table; s < end; s += SLOT)
+        if (place_of(s) != EMPTY && find(s + SLOT, end, s + AT_HANDLE) < end) return false;
+    return true;
+}
+
+/* ---- requests */
+static unsigned length_status(unsigned kind, size_t n) {
+    static const uint8_t sizes[10] = {0, 12, 0, 20, 20, 12, 10, 10, 0, 10};
+    if (kind < 1 || kind > 9) return UNSUPPORTED;
+    if (kind == 2) return n < 30 ? PARAMETER : SUCCESS;
+    if (kind == 8) return n < 3 ? PARAMETER : SUCCESS;
+    return n == sizes[kind] ? SUCCESS : PARAMETER;
+}
+
+static unsigned field_status(unsigned kind, const uint8_t *body, size_t n) {
+    if (kind == 2) {
+        size_t hashes = body[28] >> 4, used = 29 + HASH * hashes;
+        return hashes > HASHES || (body[28] & 15) || n <= used || n - used > PAYLOAD ? PARAMETER : SUCCESS;
+    }
+    if (kind == 8) return body[2] > HASHES || n != 3 + HASH * (size_t)body[2] ? PARAMETER : SUCCESS;
+    return SUCCESS;
+}
+
+static unsigned request_status(const uint8_t *frame, size_t n) {
+    unsigned kind = frame[0] & 31, status;
+    if (frame[0] >> 5 != 1 || (frame[1] & 127)) return PARAMETER;
+    if ((status = length_status(kind, n - 4)) != SUCCESS) return status;
+    if (kind <= 7 && frame[1] == 0) return INTEGRITY;
+    return field_status(kind, frame + 4, n - 4);
+}
+
+/* ---- replies */
+static void reply_head(uint8_t *reply, unsigned kind, unsigned status, size_t body) {
+    reply[0] = (uint8_t)(1 << 5 | kind);
+    reply[1] = (uint8_t)status;
+    put_word(reply + 2, (unsigned)body);
+}
+
+static size_t put_right(uint8_t *body, const uint8_t *s) {
+    size_t hashes = HASH * hashes_of(s), length = word(s + AT_LENGTH);
+    memcpy(body, s + AT_KEY, KEY + 2);
+    body[18] = (uint8_t)(hashes_of(s) << 4);
+    memcpy(body + 19, s + AT_HASHES, hashes);
+    memcpy(body + 19 + hashes, s + AT_PAYLOAD, length);
+    return 19 + hashes + length;
+}
+
+/* ---- what each kind does: a status, and at success how long the body is that it wrote */
+struct call {
+    uint8_t *table, *end, *reply;
+    const uint8_t *body;
+    size_t n, given;
+};
+
+static unsigned set_up(struct call *c) {
+    unsigned length = word(c->body + HANDLE);
+    if (length == 0) return PARAMETER;
+    if (find(c->table, c->end, c->body) < c->end) return DUPLICATE;
+    uint8_t *s = c->table;
+    while (s < c->end && place_of(s) != EMPTY) s += SLOT;
+    if (length > PAYLOAD || s == c->end) return NO_SPACE;
+    s[0] = RESERVED << 6;
+    memcpy(s + AT_HANDLE, c->body, HANDLE);
+    put_word(s + AT_LENGTH, length);
+    return SUCCESS;
+}
+
+static unsigned install(struct call *c, uint8_t *s) {
+    unsigned hashes = c->body[28] >> 4;
+    size_t length = c->n - 29 - HASH * hashes;
+    if (place_of(s) != RESERVED) return UNEXPECTED;
+    if (length > word(s + AT_LENGTH)) return NO_SPACE;
+    s[0] = (uint8_t)(ENABLED << 6 | hashes << 2);
+    memcpy(s + AT_KEY, c->body + HANDLE, KEY + 2);
+    put_word(s + AT_LENGTH, (unsigned)length);
+    memcpy(s + AT_HASHES, c->body + 29, HASH * hashes);
+    memcpy(s + AT_PAYLOAD, c->body + 29 + HASH * hashes, length);
+    return SUCCESS;
+}
+
+static unsigned lend(struct call *c, uint8_t *s, bool whole) {
+    if (place_of(s) != ENABLED) return UNEXPECTED;
+    if (find(c->table, c->end, c->body + HANDLE) < c->end) return DUPLICATE;
+    if (whole) {
+        c->given = put_right(c->reply + 4, s);
+    } else {
+        memcpy(c->reply + 4, s + AT_KEY, KEY);
+        c->given = KEY;
+    }
+    s[0] |= DISABLED << 6;
+    memcpy(s + AT_HANDLE, c->body + HANDLE, HANDLE);
+    return SUCCESS;
+}
+
+static unsigned enable(struct call *c, uint8_t *s) {
+    if (place_of(s) == RESERVED) return UNEXPECTED;
+    if (place_of(s) == DISABLED) {
+        s[0] = (uint8_t)(ENABLED << 6 | (s[0] & 63));
+        memcpy(s + AT_COUNT, c->body + HANDLE, 2);
+    }
+    return SUCCESS;
+}
+
+static unsigned clear(uint8_t *s, bool reserved) {
+    if ((place_of(s) == RESERVED) != reserved) return UNEXPECTED;
+    memset(s, 0, SLOT);
+    return SUCCESS;
+}
+
+static unsigned inform(struct call *c, const uint8_t *s) {
+    if (place_of(s) != ENABLED) return UNEXPECTED;
+    size_t length = word(s + AT_LENGTH);
+    memcpy(c->reply + 4, s + AT_COUNT, 2);
+    memcpy(c->reply + 6, s + AT_PAYLOAD, length);
+    c->given = 2 + length;
+    return SUCCESS;
+}
+
+static bool has_some(const uint8_t *s, const uint8_t *asked, unsigned n) {
+    for (unsigned i = 0; i < hashes_of(s); i++)
+        for (unsigned k = 0; k < n; k++)
+            if (memcmp(s + AT_HASHES + HASH * i, asked + HASH * k, HASH) == 0) return true;
+    return false;
+}
+
+static unsigned list(struct call *c) {
+    unsigned limit = word(c->body), most = limit == 0 ? SLOTS : limit / HANDLE, found = 0;
+    for (const uint8_t *s = c->table; s < c->end; s += SLOT) {
+        if (place_of(s) != ENABLED || (c->body[2] != 0 && !has_some(s, c->body + 3, c->body[2]))) continue;
+        if (found < most) memcpy(c->reply + 5 + HANDLE * found, s + AT_HANDLE, HANDLE);
+        found++;
+    }
+    c->reply[4] = found > most ? 128 : 0;
+    c->given = 1 + HANDLE * (found > most ? most : found);
+    return SUCCESS;
+}
+
+static unsigned serve(struct call *c, unsigned kind) {
+    if (kind == 1) return set_up(c);
+    if (kind == 8) return list(c);
+    uint8_t *s = find(c->table, c->end, c->body);
+    if (s == c->end) return NOT_FOUND;
+    if (find(s + SLOT, c->end, c->body) < c->end) return TWO_RECORDS;
+    switch (kind) {
+    case 2: return install(c, s);
+    case 3: return lend(c, s, true);
+    case 4: return lend(c, s, false);
+    case 5: return enable(c, s);
+    case 6: return clear(s, false);
+    case 7: return clear(s, true);
+    default: return inform(c, s);
+    }
+}
+
+uint16_t AGENT(uint8_t *table, size_t size, const uint8_t *frame, size_t n, uint8_t *reply, size_t room) {
+    if (room < REPLY) return 101;
+    if (size == 0 || size % SLOT != 0 || size > SLOTS * SLOT) return 102;
+    if (!well_table(table, table + size)) return 103;
+    if (n < 4 || n - 4 != word(frame + 2)) return 104;
+    struct call c = {table, table + size, reply, frame + 4, n - 4, 0};
+    unsigned status = request_status(frame, n);
+    if (status == SUCCESS) status = serve(&c, frame[0] & 31);
+    reply_head(reply, frame[0] & 31, status, status == SUCCESS ? c.given : 0);
+    return 0;
+}

@@ -1,0 +1,23 @@
+/* The agents that are measured, the proved one first. The build says which others there are: OTHER_AGENTS is a list of
+ * AGENT(name, function).
+ */
+#ifndef AGENTS_H
+#define AGENTS_H
+
+#include "cavernlull.h"
+
+typedef uint16_t agent_function(uint8_t *, size_t, const uint8_t *, size_t, uint8_t *, size_t);
+
+#define AGENT(name, function) agent_function function;
+OTHER_AGENTS
+#undef AGENT
+#define AGENT(name, function) {name, function},
+static const struct {
+    const char *name;
+    agent_function *call;
+} agents[] = {{"Cavernlull", cavernlull_call}, OTHER_AGENTS};
+#undef AGENT
+
+enum { AGENTS = sizeof agents / sizeof agents[0] };
+
+#endif

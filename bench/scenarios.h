@@ -1,0 +1,27 @@
+/* What is measured: tables, and the requests made of them. */
+#ifndef SCENARIOS_H
+#define SCENARIOS_H
+
+#include <stddef.h>
+#include <stdint.h>
+
+enum { SLOT = 4288, SLOTS = 15, TABLE = SLOT * SLOTS, REPLY = 4279, MOST_STEPS = 4, MOST_FRAME = 4300 };
+
+struct step {
+    uint8_t frame[MOST_FRAME];
+    size_t length;
+};
+
+/* A table, and requests after which it is as it was before them. `number` is what each call gives. */
+struct scenario {
+    const char *name;
+    uint8_t table[TABLE];
+    struct step steps[MOST_STEPS];
+    size_t count;
+    uint16_t number;
+};
+
+/* Makes the scenario of this index; gives 0 where there is none. */
+int make_scenario(struct scenario *s, unsigned index);
+
+#endif

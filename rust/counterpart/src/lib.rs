@@ -1,0 +1,67 @@
+//! The card agent of document 01 in Rust, to measure the proved one against.
+//!
+//! It is written for speed, as a Rust programmer would write it: slots are
+//! arrays, so that nothing is checked again at run time; zero checks become
+//! vector code; handles and hashes are compared as arrays.
+
+mod requests;
+mod rights;
+mod slots;
+
+use requests::Status;
+
+/// The shortest reply buffer.
+const REPLY: usize = 4279;
+
+/// One call: the number, with the reply and the table as document 01 has them.
+pub fn call(table: &mut [u8], frame: &[u8], reply: &mut [u8]) -> u16 {
+    let Some(reply) = reply.first_chunk_mut::<REPLY>() else {
+        return 101;
+    };
+    let Some(slots) = slots::whole(table) else {
+        return 102;
+    };
+    if !slots::well(slots) {
+        return 103;
+    }
+    let Some((head, body)) = requests::split(frame) else {
+        return 104;
+    };
+    let kind = head[0] & 31;
+    let answer = requests::test(head, body).and_then(|()| rights::serve(slots, kind, body, reply));
+    let (status, length) = match answer {
+        Ok(length) => (0, length),
+        Err(status) => (status as u8, 0),
+    };
+    let [high, low] = (length as u16).to_be_bytes();
+    reply[..4].copy_from_slice(&[1 << 5 | kind, status, high, low]);
+    0
+}
+
+/// What a request gives: the length of its reply's body, or a status.
+type Answer = Result<usize, Status>;
+
+/// The same under C's calling convention.
+///
+/// # Safety
+///
+/// Each pointer and length are of memory that the call may use as it does.
+#[no_mangle]
+pub unsafe extern "C" fn rust_call(
+    table: *mut u8,
+    table_length: usize,
+    frame: *const u8,
+    frame_length: usize,
+    reply: *mut u8,
+    reply_length: usize,
+) -> u16 {
+    // SAFETY: what the caller promises.
+    let (table, frame, reply) = unsafe {
+        (
+            std::slice::from_raw_parts_mut(table, table_length),
+            std::slice::from_raw_parts(frame, frame_length),
+            std::slice::from_raw_parts_mut(reply, reply_length),
+        )
+    };
+    call(table, frame, reply)
+}

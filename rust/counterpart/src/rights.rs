@@ -1,0 +1,159 @@
+//! What each kind of request does.
+
+use crate::requests::Status;
+use crate::slots::{find, handle, hashes, length, place, Handle, Slot};
+use crate::slots::{
+    AT_COUNT, AT_HASHES, AT_KEY, AT_LENGTH, AT_PAYLOAD, HANDLE, HASH, PAYLOAD, SLOT, SLOTS,
+};
+use crate::slots::{DISABLED, EMPTY, ENABLED, RESERVED};
+use crate::{Answer, REPLY};
+
+/// A reply buffer as far as a reply can reach.
+type Reply = [u8; REPLY];
+
+/// What a request that passed its tests does; its reply's body is in the
+/// buffer, behind the head.
+pub fn serve(slots: &mut [Slot], kind: u8, body: &[u8], reply: &mut Reply) -> Answer {
+    match kind {
+        1 => return set_up(slots, body),
+        8 => return list(slots, body, reply),
+        _ => {}
+    }
+    let wanted = first(body);
+    let at = find(slots, wanted).ok_or(Status::NotFound)?;
+    if find(&slots[at + 1..], wanted).is_some() {
+        return Err(Status::TwoRecords);
+    }
+    match kind {
+        2 => install(&mut slots[at], body),
+        3 | 4 => lend(slots, at, second(body), kind == 3, reply),
+        5 => enable(&mut slots[at], body),
+        6 | 7 => clear(&mut slots[at], kind == 7),
+        _ => inform(&slots[at], reply),
+    }
+}
+
+fn first(body: &[u8]) -> &Handle {
+    body.first_chunk().expect("every body begins with a handle")
+}
+
+fn second(body: &[u8]) -> &Handle {
+    body[HANDLE..].first_chunk().expect("a new handle")
+}
+
+fn set_up(slots: &mut [Slot], body: &[u8]) -> Answer {
+    let room = u16::from_be_bytes([body[10], body[11]]);
+    if room == 0 {
+        return Err(Status::Parameter);
+    }
+    if find(slots, first(body)).is_some() {
+        return Err(Status::Duplicate);
+    }
+    let empty = slots.iter_mut().find(|s| place(s) == EMPTY);
+    let s = empty
+        .filter(|_| usize::from(room) <= PAYLOAD)
+        .ok_or(Status::NoSpace)?;
+    s[0] = RESERVED << 6;
+    s[1..AT_KEY].copy_from_slice(first(body));
+    s[AT_LENGTH..AT_HASHES].copy_from_slice(&body[10..12]);
+    Ok(0)
+}
+
+fn install(s: &mut Slot, body: &[u8]) -> Answer {
+    let (fields, content) = body.split_at(29);
+    let (hashes, payload) = content.split_at(HASH * usize::from(fields[28] >> 4));
+    if place(s) != RESERVED {
+        return Err(Status::Unexpected);
+    }
+    if payload.len() > length(s) {
+        return Err(Status::NoSpace);
+    }
+    s[0] = ENABLED << 6 | fields[28] >> 2;
+    s[AT_KEY..AT_LENGTH].copy_from_slice(&fields[HANDLE..28]);
+    s[AT_LENGTH..AT_HASHES].copy_from_slice(&(payload.len() as u16).to_be_bytes());
+    s[AT_HASHES..][..hashes.len()].copy_from_slice(hashes);
+    s[AT_PAYLOAD..][..payload.len()].copy_from_slice(payload);
+    Ok(0)
+}
+
+fn lend(slots: &mut [Slot], at: usize, new: &Handle, whole: bool, reply: &mut Reply) -> Answer {
+    if place(&slots[at]) != ENABLED {
+        return Err(Status::Unexpected);
+    }
+    if find(slots, new).is_some() {
+        return Err(Status::Duplicate);
+    }
+    let s = &mut slots[at];
+    let given = if whole {
+        put_right(s, reply)
+    } else {
+        put_key(s, reply)
+    };
+    s[0] |= DISABLED << 6;
+    s[1..AT_KEY].copy_from_slice(new);
+    Ok(given)
+}
+
+fn put_key(s: &Slot, reply: &mut Reply) -> usize {
+    reply[4..20].copy_from_slice(&s[AT_KEY..AT_COUNT]);
+    16
+}
+
+fn put_right(s: &Slot, reply: &mut Reply) -> usize {
+    let (kept, payload) = (HASH * hashes(s), length(s));
+    reply[4..22].copy_from_slice(&s[AT_KEY..AT_LENGTH]);
+    reply[22] = (hashes(s) as u8) << 4;
+    reply[23..][..kept].copy_from_slice(&s[AT_HASHES..][..kept]);
+    reply[23 + kept..][..payload].copy_from_slice(&s[AT_PAYLOAD..][..payload]);
+    19 + kept + payload
+}
+
+fn enable(s: &mut Slot, body: &[u8]) -> Answer {
+    match place(s) {
+        RESERVED => return Err(Status::Unexpected),
+        DISABLED => {
+            s[0] = ENABLED << 6 | s[0] & 63;
+            s[AT_COUNT..AT_LENGTH].copy_from_slice(&body[10..12]);
+        }
+        _ => {}
+    }
+    Ok(0)
+}
+
+fn clear(s: &mut Slot, reserved: bool) -> Answer {
+    if (place(s) == RESERVED) != reserved {
+        return Err(Status::Unexpected);
+    }
+    *s = [0; SLOT];
+    Ok(0)
+}
+
+fn inform(s: &Slot, reply: &mut Reply) -> Answer {
+    if place(s) != ENABLED {
+        return Err(Status::Unexpected);
+    }
+    let payload = length(s);
+    reply[4..6].copy_from_slice(&s[AT_COUNT..AT_LENGTH]);
+    reply[6..][..payload].copy_from_slice(&s[AT_PAYLOAD..][..payload]);
+    Ok(2 + payload)
+}
+
+fn list(slots: &[Slot], body: &[u8], reply: &mut Reply) -> Answer {
+    let limit = usize::from(u16::from_be_bytes([body[0], body[1]]));
+    let most = if limit == 0 { SLOTS } else { limit / HANDLE };
+    let (asked, _) = body[3..].as_chunks::<HASH>();
+    let mut found = 0;
+    for s in slots.iter().filter(|s| is_listed(s, asked)) {
+        if found < most {
+            reply[5 + HANDLE * found..][..HANDLE].copy_from_slice(handle(s));
+        }
+        found += 1;
+    }
+    reply[4] = if found > most { 128 } else { 0 };
+    Ok(1 + HANDLE * found.min(most))
+}
+
+fn is_listed(s: &Slot, asked: &[[u8; HASH]]) -> bool {
+    let (kept, _) = s[AT_HASHES..][..HASH * hashes(s)].as_chunks::<HASH>();
+    place(s) == ENABLED && (asked.is_empty() || kept.iter().any(|hash| asked.contains(hash)))
+}

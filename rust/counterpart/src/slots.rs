@@ -1,0 +1,97 @@
+//! Slots, and when a table of them is well formed.
+
+/// The bytes of a slot, a handle, a hash, and the most payload.
+pub const SLOT: usize = 4288;
+pub const HANDLE: usize = 10;
+pub const HASH: usize = 20;
+pub const PAYLOAD: usize = 4096;
+
+/// The most slots and hashes.
+pub const SLOTS: usize = 15;
+pub const HASHES: usize = 8;
+
+/// Where the parts of a slot begin.
+pub const AT_KEY: usize = 11;
+pub const AT_COUNT: usize = 27;
+pub const AT_LENGTH: usize = 29;
+pub const AT_HASHES: usize = 31;
+pub const AT_ZERO: usize = 191;
+pub const AT_PAYLOAD: usize = 192;
+
+/// Places.
+pub const EMPTY: u8 = 0;
+pub const RESERVED: u8 = 1;
+pub const ENABLED: u8 = 2;
+pub const DISABLED: u8 = 3;
+
+/// How many bytes are looked at between two tests.
+const BLOCK: usize = 512;
+
+pub type Slot = [u8; SLOT];
+pub type Handle = [u8; HANDLE];
+
+/// The slots of a table of 1 to 15 whole ones.
+pub fn whole(table: &mut [u8]) -> Option<&mut [Slot]> {
+    let (slots, rest) = table.as_chunks_mut::<SLOT>();
+    (rest.is_empty() && (1..=SLOTS).contains(&slots.len())).then_some(slots)
+}
+
+pub fn place(s: &Slot) -> u8 {
+    s[0] >> 6
+}
+
+pub fn hashes(s: &Slot) -> usize {
+    usize::from(s[0] >> 2 & 15)
+}
+
+pub fn length(s: &Slot) -> usize {
+    usize::from(u16::from_be_bytes([s[AT_LENGTH], s[AT_LENGTH + 1]]))
+}
+
+pub fn handle(s: &Slot) -> &Handle {
+    s[1..].first_chunk().expect("a slot is longer")
+}
+
+/// Whether a table's slots are well formed, and no two have one handle.
+pub fn well(slots: &[Slot]) -> bool {
+    slots.iter().all(well_slot) && distinct(slots)
+}
+
+fn distinct(slots: &[Slot]) -> bool {
+    (0..slots.len())
+        .all(|i| place(&slots[i]) == EMPTY || find(&slots[i + 1..], handle(&slots[i])).is_none())
+}
+
+/// The first slot under a handle.
+pub fn find(slots: &[Slot], wanted: &Handle) -> Option<usize> {
+    slots
+        .iter()
+        .position(|s| place(s) != EMPTY && handle(s) == wanted)
+}
+
+fn well_slot(s: &Slot) -> bool {
+    let (hashes, length) = (hashes(s), length(s));
+    match place(s) {
+        EMPTY => all_zero(s),
+        _ if hashes > HASHES
+            || !(1..=PAYLOAD).contains(&length)
+            || s[0] & 3 != 0
+            || s[AT_ZERO] != 0 =>
+        {
+            false
+        }
+        RESERVED => hashes == 0 && all_zero(&s[AT_KEY..AT_LENGTH]) && all_zero(&s[AT_HASHES..]),
+        _ => {
+            all_zero(&s[AT_HASHES + HASH * hashes..AT_ZERO]) && all_zero(&s[AT_PAYLOAD + length..])
+        }
+    }
+}
+
+fn all_zero(s: &[u8]) -> bool {
+    let (blocks, rest) = s.as_chunks::<BLOCK>();
+    blocks.iter().all(|block| zero_block(block)) && zero_block(rest)
+}
+
+fn zero_block(s: &[u8]) -> bool {
+    s.iter().fold(0, |any, byte| any | byte) == 0
+}
