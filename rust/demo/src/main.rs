@@ -1,0 +1,126 @@
+//! One course on one card, as the order desk sees it: `make demo`.
+//!
+//! Each step is a request, with its frame and the card's reply in hex, what
+//! they mean, and the card's listing afterwards.
+
+mod course;
+mod screen;
+
+use cavernlull::{Card, Error, Handle, Reply, Request, Status};
+use course::Step;
+use screen::Screen;
+use std::io::{self, IsTerminal, Write};
+
+/// How many slots the card has.
+const SLOTS: usize = 3;
+
+fn main() -> io::Result<()> {
+    let screen = Screen::new(io::stdout().is_terminal());
+    let text = walk(&screen).map_err(io::Error::other)?;
+    io::stdout().lock().write_all(text.as_bytes())
+}
+
+/// The whole walk as text.
+fn walk(screen: &Screen) -> Result<String, Error> {
+    let mut card = Card::blank(SLOTS);
+    let mut text = screen.title(&format!("One course on a card of {SLOTS} slots"));
+    text += &screen.listing(&card.listing());
+    for (index, step) in course::steps().iter().enumerate() {
+        text += &screen.heading(index + 1, step.title);
+        text += &shown(screen, &mut card, step)?;
+    }
+    Ok(text)
+}
+
+/// One step: the request, the reply and the listing.
+fn shown(screen: &Screen, card: &mut Card, step: &Step) -> Result<String, Error> {
+    let frame = step.request.to_frame()?;
+    let mut buffer = [0; cavernlull::REPLY_ROOM];
+    let answer = card.call_frame(&frame, &mut buffer)?;
+    let reply = Reply::read(answer)?;
+    assert_eq!(reply.status(), step.expected, "{}", step.title);
+    let mut text = screen.frame("request", &frame, &asked(&step.request));
+    text += &screen.reply(answer, &answered(&reply), reply.status() == Status::Success);
+    text += &screen.note(step.why);
+    text += &screen.listing(&card.listing());
+    Ok(text)
+}
+
+/// A handle as the desk knows it: those of this walk are letters.
+fn name(handle: &Handle) -> String {
+    String::from_utf8_lossy(&handle.0).into_owned()
+}
+
+/// A request in words.
+fn asked(request: &Request) -> String {
+    let kind = request.kind();
+    match request {
+        Request::InstallationSetup { handle, room } => {
+            format!("{kind}: keep {room} bytes under {}", name(handle))
+        }
+        Request::RightsInstallation { handle, right } => format!(
+            "{kind}: {} bytes for {} uses under {}",
+            right.payload.len(),
+            right.count,
+            name(handle)
+        ),
+        Request::RightsRetrieval { handle, new_handle }
+        | Request::RekQuery { handle, new_handle } => {
+            format!("{kind}: lend {} out as {}", name(handle), name(new_handle))
+        }
+        Request::RightsEnablement { handle, count } => {
+            format!("{kind}: {} is back, with {count} uses left", name(handle))
+        }
+        Request::RightsRemoval { handle }
+        | Request::HandleRemoval { handle }
+        | Request::RightsInformationQuery { handle } => format!("{kind}: {}", name(handle)),
+        Request::HandleListQuery { hashes, .. } if hashes.is_empty() => {
+            format!("{kind}: every course for use")
+        }
+        Request::HandleListQuery { hashes, .. } => {
+            format!("{kind}: courses with one of {} modules", hashes.len())
+        }
+    }
+}
+
+/// A reply in words.
+fn answered(reply: &Reply) -> String {
+    let status = reply.status();
+    match reply {
+        Reply::Key(_) => format!("{status}, with the course's key"),
+        Reply::Handles { handles, .. } => {
+            let names: Vec<String> = handles.iter().map(name).collect();
+            format!(
+                "{status}, with {} handles: {}",
+                names.len(),
+                names.join(", ")
+            )
+        }
+        _ => status.to_string(),
+    }
+}
+
+#[cfg(test)]
+mod tests {
+    use super::{walk, Screen};
+
+    #[test]
+    fn every_step_has_the_status_expected_and_the_card_ends_blank() {
+        let text = walk(&Screen::new(false)).expect("no step is refused with a number");
+        assert_eq!(
+            text.matches("request").count(),
+            super::course::steps().len()
+        );
+        assert!(text.contains("Duplicate Handle") && text.contains("Handle Not Found"));
+        let last = text.rsplit("slot place hashes count length").next();
+        let last = last.expect("there is a listing");
+        assert_eq!(last.matches(" empty 0 0 0").count(), super::SLOTS);
+    }
+
+    #[test]
+    fn colour_is_for_terminals_only() {
+        let plain = walk(&Screen::new(false)).expect("it walks");
+        let coloured = walk(&Screen::new(true)).expect("it walks");
+        assert!(!plain.contains('\x1b') && coloured.contains('\x1b'));
+    }
+}

@@ -1,0 +1,66 @@
+//! What is shown: hex with its meaning beside it, and listings. Colour is for
+//! terminals alone.
+
+use cavernlull::Listing;
+
+/// How many bytes of a frame stand in a line.
+const LINE: usize = 20;
+
+/// Where text goes.
+pub struct Screen {
+    coloured: bool,
+}
+
+impl Screen {
+    /// A screen that shows colours, or not.
+    pub fn new(coloured: bool) -> Screen {
+        Screen { coloured }
+    }
+
+    fn paint(&self, code: &str, text: &str) -> String {
+        match self.coloured {
+            true => format!("\x1b[{code}m{text}\x1b[0m"),
+            false => text.to_owned(),
+        }
+    }
+
+    /// The title of the whole.
+    pub fn title(&self, text: &str) -> String {
+        format!("{}\n", self.paint("1", text))
+    }
+
+    /// The title of a step.
+    pub fn heading(&self, number: usize, text: &str) -> String {
+        format!("\n{}\n", self.paint("1", &format!("{number}. {text}")))
+    }
+
+    /// A frame in hex, under what it is and what it means.
+    pub fn frame(&self, what: &str, bytes: &[u8], meaning: &str) -> String {
+        let mut text = format!("  {what}  {meaning}\n");
+        for line in bytes.chunks(LINE) {
+            let hex: Vec<String> = line.iter().map(|byte| format!("{byte:02x}")).collect();
+            text += &format!("           {}\n", self.paint("36", &hex.join(" ")));
+        }
+        text
+    }
+
+    /// A reply: green where it is a success, else red.
+    pub fn reply(&self, bytes: &[u8], meaning: &str, success: bool) -> String {
+        let colour = if success { "32" } else { "31" };
+        self.frame("reply  ", bytes, &self.paint(colour, meaning))
+    }
+
+    /// A sentence.
+    pub fn note(&self, text: &str) -> String {
+        format!("  {}\n", self.paint("2", text))
+    }
+
+    /// What is on the card.
+    pub fn listing(&self, listing: &Listing) -> String {
+        let mut text = String::new();
+        for line in listing.as_str().lines() {
+            text += &format!("    {line}\n");
+        }
+        text
+    }
+}
