@@ -61,6 +61,11 @@
 #![deny(missing_docs)]
 #![deny(unsafe_code)]
 
+/// The README's example, compiled with the doc tests.
+#[cfg(doctest)]
+#[doc = include_str!("../../../README.md")]
+struct Readme;
+
 mod archive;
 mod card;
 mod error;
