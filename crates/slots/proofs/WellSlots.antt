@@ -2,17 +2,18 @@
 use Prim.Native.Nat.{ℕ, zero, suc, _+_, _-_, _*_, _≤_, _<_}
 use mathlib.Core.Path.{_≡_, refl, sym, ap, _∙_}
 use mathlib.Core.List.{[], _∷_}
-use mathlib.Core.Bool.{Bool, true, false, _&&_, and-false, and-true, and-assoc}
+use mathlib.Core.Bool.{Bool, true, false, _&&_, and-false, and-true, and-assoc, and-comm}
 use native.Mathlib.Omega.{arith}
 use borrow.Author.Tests.{lt-leb, le-leb}
 use lib.Dec.{eqb, leb, ltb}
 use lib.ListN.{length, getD, take, drop, length-drop}
-use lib.Seq.{take-all, drop-drop}
+use lib.Seq.{take-all, take-suc, drop-drop, getD-drop}
 use Rattle.profile.specs.Bytes.{Bytes, byte, part, word, allZero}
 use Rattle.profile.specs.Table.{placeOf, hashCountOf, spareOf, wellPlaced, wellSlot}
 use Rattle.profile.proofs.Logic.{both, and-parts, eqb-eq, from-1-to-says}
 use Rattle.profile.proofs.Strings.{zero-drop}
 use Rattle.profile.proofs.Unpack.{well-slot, well-reserved}
+use Rattle.zeros.proofs.ZeroBytes.{zero-both}
 use Rattle.slots.specs.declared.place.Place.{Place}
 use Rattle.slots.specs.declared.place.Place.the-variants.{Empty, Reserved, Enabled, Disabled}
 use Rattle.slots.specs.Places.{placeNumber}
@@ -62,14 +63,26 @@ module _ (s : Bytes) (len-s : length s ≡ 4288) where
   pub zero-tail : (at : ℕ) → allZero (part at (4288 - at) s) ≡ allZero (drop at s)
   zero-tail at = ap allZero (take-all (4288 - at) (drop at s) (rw (length-drop at s) (omega arith)))
 
+  -- "hash bytes beyond the count", and byte 191 behind them
+  pub zero-gap : (a : ℕ) → a ≤ 191 → allZero (part a (192 - a) s) ≡ (eqb (byte 191 s) 0 && allZero (part a (191 - a) s))
+  zero-gap a h =
+      let n = 191 - a in
+      let one : 192 - a ≡ suc n = omega arith in
+      let last : a + n ≡ 191 = omega arith in
+      rw one
+      (ap allZero (take-suc (drop a s) n 0 (rw (length-drop a s) (omega arith)))
+      ∙ zero-both (part a n s) (getD (drop a s) n 0 ∷ [])
+      ∙ rw (getD-drop a s n 0, last, and-true)
+      (and-comm (allZero (part a n s)) (eqb (byte 191 s) 0)))
+
   -- the tests that are left where the two bounds hold, by place
   pub taken-parts : (p : Place) (hashes len spare : ℕ) (gap rest awaits : Bool) → placeNumber p ≡ placeOf s → 0 < placeOf s
       → hashes ≡ hashCountOf s → len ≡ word 29 s → hashes ≤ 8 → len ≤ 4096
       → spare ≡ spareOf s
-      → gap ≡ allZero (part (31 + 20 * hashes) (191 - (31 + 20 * hashes)) s)
+      → gap ≡ allZero (part (31 + 20 * hashes) (192 - (31 + 20 * hashes)) s)
       → rest ≡ allZero (part (192 + payloadIn p len) (4288 - (192 + payloadIn p len)) s)
       → awaits ≡ awaitsWell p hashes s
-      → (eqb spare 0 && eqb (byte 191 s) 0 && gap && rest && ltb 0 len && awaits) ≡ wellSlot s
+      → (eqb spare 0 && gap && rest && ltb 0 len && awaits) ≡ wellSlot s
   unfolding wellSlot
   taken-parts p hashes len spare gap rest awaits at taken e-hashes e-len few short e-spare e-gap e-rest e-awaits =
       go p at (e-rest ∙ zero-tail (192 + payloadIn p len)) e-awaits
@@ -80,18 +93,20 @@ module _ (s : Bytes) (len-s : length s ≡ 4288) where
       short' : leb (word 29 s) 4096 ≡ true
       short' = le-leb (word 29 s) 4096 (rw e-len at short)
 
-      g : gap ≡ allZero (part (31 + 20 * hashCountOf s) (160 - 20 * hashCountOf s) s)
-      g = let e : 191 - (31 + 20 * hashes) ≡ 160 - 20 * hashes = omega arith in rw (e, e-hashes) at e-gap
+      g : gap ≡ (eqb (byte 191 s) 0 && allZero (part (31 + 20 * hashCountOf s) (160 - 20 * hashCountOf s) s))
+      g =
+          let e : 191 - (31 + 20 * hashes) ≡ 160 - 20 * hashes = omega arith in
+          rw (e, e-hashes) at (e-gap ∙ zero-gap (31 + 20 * hashes) (omega (arith, few)))
 
       go : (p : Place) → placeNumber p ≡ placeOf s → rest ≡ allZero (drop (192 + payloadIn p len) s) → awaits ≡ awaitsWell p hashes s
-          → (eqb spare 0 && eqb (byte 191 s) 0 && gap && rest && ltb 0 len && awaits) ≡ wellSlot s
+          → (eqb spare 0 && gap && rest && ltb 0 len && awaits) ≡ wellSlot s
       go Empty q r w = absurd (omega (arith, taken, q))
-      go Enabled q r w = rw (sym q, e-spare, g, rw e-len at r, w, e-len, few', short') (simp and-true)
-      go Disabled q r w = rw (sym q, e-spare, g, rw e-len at r, w, e-len, few', short') (simp and-true)
+      go Enabled q r w = rw (sym q, e-spare, g, rw e-len at r, w, e-len, few', short') (simp (and-true, and-assoc))
+      go Disabled q r w = rw (sym q, e-spare, g, rw e-len at r, w, e-len, few', short') (simp (and-true, and-assoc))
       go Reserved q r w = split (allZero (drop 192 s)) refl
         where
           split : (b : Bool) → allZero (drop 192 s) ≡ b
-              → (eqb spare 0 && eqb (byte 191 s) 0 && gap && rest && ltb 0 len && awaits) ≡ wellSlot s
+              → (eqb spare 0 && gap && rest && ltb 0 len && awaits) ≡ wellSlot s
           split true z =
               let t : allZero (drop (192 + word 29 s) s) ≡ true = rw (drop-drop (word 29 s) 192 s) at (zero-drop (word 29 s) (drop 192 s) z) in
               rw (sym q, e-spare, g, r, w, e-len, e-hashes, z, t, few', short') (simp (and-true, and-assoc))

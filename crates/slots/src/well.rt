@@ -53,10 +53,10 @@ fn well_taken(s: &[u8], head: Head) -> bool
     }
     let payload = payload_in(place, length);
     let spare = bits::fields::slot_spare(s[0]);
-    let gap = zeros::zero_part(s, 31 + 20 * hashes, 191);
+    let gap = zeros::zero_part(s, 31 + 20 * hashes, 192);
     let rest = zeros::zero_part(s, 192 + payload, 4288);
     let awaits = awaits_well(s, place, hashes);
-    (spare == 0) & (s[191] == 0) & gap & rest & (0 < length) & awaits
+    (spare == 0) & gap & rest & (0 < length) & awaits
 }
 
 // "Empty: all 4,288 bytes are 0"; any other slot has a record.

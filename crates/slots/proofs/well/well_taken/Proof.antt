@@ -44,16 +44,13 @@ zero-part-requires-2 c κs = search needs
 awaits-well-requires : tie.Need-awaits-well-requires
 awaits-well-requires c κs = search needs
 
-shared-slice-read-result : tie.Need-shared-slice-read-result
-shared-slice-read-result c = search needs
-
 returns-3 : tie.Need-returns-3
 returns-3 c =
-    let a = c .before .before .before .before .before .before .before .before .before .before in
+    let a = c .before .before .before .before .before .before .before .before .before in
     let h = a .pre .1 in
     taken-parts (now (a .args .s)) (a .pre .0) (a .args .head .place) (a .args .head .hashes) (a .args .head .length) _ _ _ _
-    (h .place-is) (a .pre .2) (h .hashes-are) (h .length-is) (c .before .before .before .before .before .before .before .before .if1 .left) (c .before .before .before .before .before .before .before .if2 .left)
-    (c .before .before .before .before .slot-spare .ensures) (c .before .before .before .zero-part .ensures) (rw (c .before .before .before .before .before .before .payload-in .ensures .0) at (c .before .before .zero-part2 .ensures)) (c .before .awaits-well .ensures)
+    (h .place-is) (a .pre .2) (h .hashes-are) (h .length-is) (c .before .before .before .before .before .before .before .if1 .left) (c .before .before .before .before .before .before .if2 .left)
+    (c .before .before .before .slot-spare .ensures) (c .before .before .zero-part .ensures) (rw (c .before .before .before .before .before .payload-in .ensures .0) at (c .before .zero-part2 .ensures)) (c .awaits-well .ensures)
 
 pub well-taken-spec : {M : Type 1} → statement M
 well-taken-spec =
@@ -70,5 +67,4 @@ well-taken-spec =
     add-zero-part-2
     zero-part-requires-2
     awaits-well-requires
-    shared-slice-read-result
     returns-3)
