@@ -12,6 +12,7 @@ use driver::{Call, Listed, Same};
 use random::Rng;
 use reference::ledger::{agrees, Ledger};
 use reference::{read_request, ReadRequest, MAX_SLOTS};
+use std::collections::BTreeMap;
 use std::io::Result;
 
 /// The calls of one sequence, from a blank table on.
@@ -36,13 +37,22 @@ struct Expected {
     listed: Listed,
 }
 
+/// What there was among some calls, and how often.
+#[derive(Default)]
+pub struct Seen {
+    /// The outcomes of the calls.
+    pub calls: Counts,
+    /// The first lines of the listings: the header, or a refusal.
+    pub listings: BTreeMap<String, u64>,
+}
+
 /// Makes at least so many calls, on tables of 1 to 15 slots in turn, and
-/// checks each. Gives how often there was which outcome.
+/// checks each. Gives what there was.
 ///
 /// # Panics
 ///
 /// Where the archive and the reference differ, or a table and its history.
-pub fn compare(mut rng: Rng, calls: u64) -> Counts {
+pub fn compare(mut rng: Rng, calls: u64) -> Seen {
     let mut checker = Checker::default();
     pipeline::run(
         move |giver| {
@@ -56,7 +66,7 @@ pub fn compare(mut rng: Rng, calls: u64) -> Counts {
         },
         |answers, expected| checker.check(&answers.call(), &answers.listed(), &expected),
     );
-    checker.counts
+    checker.seen
 }
 
 /// Makes a sequence of calls from a blank table on, among them some on a copy
@@ -119,7 +129,7 @@ fn call(
 #[derive(Default)]
 struct Checker {
     checked: u64,
-    counts: Counts,
+    seen: Seen,
     ledger: Ledger,
 }
 
@@ -130,7 +140,9 @@ impl Checker {
             .and_then(|()| listed.same_as(&expected.listed))
             .and_then(|()| {
                 let outcome = Outcome::of(given.number, &given.reply);
-                *self.counts.entry(outcome).or_default() += 1;
+                *self.seen.calls.entry(outcome).or_default() += 1;
+                let first = first_line(listed);
+                *self.seen.listings.entry(first).or_default() += 1;
                 self.follow(expected, outcome, &given.table)
             });
         if let Err(difference) = same {
@@ -153,6 +165,12 @@ impl Checker {
         tell(&mut self.ledger, &call.frame, outcome);
         agrees(&self.ledger, table)
     }
+}
+
+/// The first line of a listing.
+fn first_line(listed: &Listed) -> String {
+    let line = listed.out.split(|&byte| byte == b'\n').next();
+    String::from_utf8_lossy(line.expect("there is one")).into_owned()
 }
 
 /// Tells the ledger the request, if the frame is one and had a reply.

@@ -11,9 +11,15 @@ const CALLS: u64 = 100_000;
 #[test]
 fn random_calls_agree_with_the_reference_and_with_their_history() {
     let calls = setting("COMPARE_CALLS").unwrap_or(CALLS);
-    let counts = compare(Rng::announced("random calls"), calls);
-    let made: u64 = counts.values().sum();
+    let seen = compare(Rng::announced("random calls"), calls);
+    let made: u64 = seen.calls.values().sum();
     println!("{made} calls");
     assert!(made >= calls);
-    assert_all_occurred(&counts);
+    assert_all_occurred(&seen.calls);
+    for (line, count) in &seen.listings {
+        println!("{count:>9}  listing: {line}");
+    }
+    let lines: Vec<&str> = seen.listings.keys().map(String::as_str).collect();
+    let header = "slot place hashes count length";
+    assert_eq!(lines, ["refused 102", "refused 103", header]);
 }
