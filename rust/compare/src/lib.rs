@@ -1,4 +1,4 @@
-//! The comparison of the proved archive with [`reference`], byte for byte.
+//! The comparison of the proved archive with `reference`, byte for byte.
 //!
 //! The archive is called by a small C program, the [`driver`]. The tests make
 //! calls at random, give each to the archive and to the reference, and hold
