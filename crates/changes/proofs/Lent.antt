@@ -8,11 +8,11 @@ use native.Mathlib.Nat.{not-suc-le-zero, le-of-suc-le-suc, mul-zero}
 use lib.ListN.{length, getD, take, drop, set}
 use lib.Seq.{drop-drop}
 use borrow.Rule.Slice.PartMut.{putMid}
-use Rattle.profile.specs.Bytes.{Bytes, part, zeros, pieces, all}
+use Rattle.profile.specs.Bytes.{Bytes, part, zeros, pieces, all, Bytes256}
 use Rattle.profile.specs.Slot.{Slot, empty, distinct}
 use Rattle.profile.specs.Table.{placeOf, wellSlot, slotCount, slotBytes, slotsOf, tableOf, wellTable, pack}
 use Rattle.profile.proofs.Logic.{and-parts}
-use Rattle.profile.proofs.Strings.{Bytes256, length-part, length-pieces}
+use Rattle.profile.proofs.Strings.{length-part, length-pieces}
 use Rattle.profile.proofs.Tables.{replace-slot}
 use Rattle.changes.specs.Change.{slotAt, Has, Placed}
 

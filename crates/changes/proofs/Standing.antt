@@ -5,12 +5,12 @@ use mathlib.Core.List.{List, [], _∷_}
 use mathlib.Core.Bool.{true}
 use native.Mathlib.Omega.{arith}
 use lib.ListN.{length, getD, drop, List·getD-map}
-use Rattle.profile.specs.Bytes.{Bytes, part, same}
+use Rattle.profile.specs.Bytes.{Bytes, part, same, Bytes256}
 use Rattle.profile.specs.Slot.{Right, Entry, reserved, enabled, disabled, Slot, empty, taken}
 use Rattle.profile.specs.Table.{placeOf, rightOf, unpack, slotBytes, slotsOf, wholeSlots, wellTable}
 use Rattle.profile.specs.Agent.{Found, absent, one, next, find}
 use Rattle.profile.proofs.Logic.{same-eq, if-cases}
-use Rattle.profile.proofs.Strings.{Bytes256, bytes-take, bytes-drop}
+use Rattle.profile.proofs.Strings.{bytes-take, bytes-drop}
 use Rattle.profile.proofs.Lookup.{EmptyAt, here, there}
 use Rattle.profile.proofs.WellFormed.{count-slots}
 use Rattle.changes.specs.Change.{slotAt, Has}

@@ -2,12 +2,11 @@
 use Prim.Native.Nat.{ℕ}
 use mathlib.Core.Path.{_≡_, refl, sym, ap, _∙_}
 use mathlib.Core.List.{List, []}
-use Rattle.profile.specs.Bytes.{Bytes, over}
+use Rattle.profile.specs.Bytes.{Bytes, over, Bytes256}
 use Rattle.profile.specs.Slot.{Slot}
 use Rattle.profile.specs.Table.{slotsOf, tableOf}
 use Rattle.profile.specs.Frame.{Refusal, code, frame}
 use Rattle.profile.specs.Agent.{Given, nothing, Answer, deny, done, writeGiven, replyFrame}
-use Rattle.profile.proofs.Strings.{Bytes256}
 use Rattle.profile.proofs.Tables.{table-slots}
 use Rattle.decisions.specs.Serving.{Ready, Serves}
 

@@ -5,12 +5,12 @@ use mathlib.Core.List.{List}
 use mathlib.Core.Bool.{Bool, true, false}
 use native.Mathlib.Omega.{arith}
 use lib.ListN.{drop}
-use Rattle.profile.specs.Bytes.{Bytes, part}
+use Rattle.profile.specs.Bytes.{Bytes, part, Bytes256}
 use Rattle.profile.specs.Slot.{Entry, Slot}
 use Rattle.profile.specs.Table.{placeOf, slotsOf}
 use Rattle.profile.specs.Frame.{notFound, unexpected, twoRecords}
 use Rattle.profile.specs.Agent.{Answer, deny, onRecord}
-use Rattle.profile.proofs.Strings.{Bytes256, bytes-take, bytes-drop}
+use Rattle.profile.proofs.Strings.{bytes-take, bytes-drop}
 use Rattle.slots.specs.declared.place.Place.{Place}
 use Rattle.slots.specs.declared.place.Place.the-variants.{Empty, Reserved, Enabled, Disabled}
 use Rattle.tables.specs.declared.lookup.Lookup.{Lookup}

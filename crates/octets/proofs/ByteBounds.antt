@@ -4,8 +4,7 @@ use native.Mathlib.Omega.{arith}
 use lib.ListN.{getD}
 use mir.Syntax.{w8}
 use mir.Val.{Fits}
-use Rattle.profile.specs.Bytes.{Bytes}
-use Rattle.profile.proofs.Strings.{Bytes256}
+use Rattle.profile.specs.Bytes.{Bytes, Bytes256}
 
 pub below-256 : (s : Bytes) → ((i : ℕ) → Fits w8 (getD s i 0)) → Bytes256 s
 below-256 s f i = omega (arith, f i)

@@ -6,14 +6,13 @@ use mathlib.Core.Bool.{Bool, true, false}
 use native.Mathlib.Omega.{arith}
 use lib.Dec.{eqb}
 use lib.ListN.{length, length-append}
-use Rattle.profile.specs.Bytes.{Bytes, if_then_else_, same, from1to, joined}
+use Rattle.profile.specs.Bytes.{Bytes, if_then_else_, same, from1to, joined, Bytes256}
 use Rattle.profile.specs.Slot.{Entry, reserved, enabled, disabled, Slot, empty, taken, distinct}
 use Rattle.profile.specs.Table.{slotSize, slotCount, slotsOf, wholeSlots, wellTable}
 use Rattle.profile.specs.Agent.{times, Call, agent}
 use Rattle.profile.specs.History.{Opened, open-setup, Owned, forUse, lent, Ledger}
 use Rattle.profile.specs.Run.{underSlot, underSetup, underRight, underSlots, underLedger, Agrees}
 use Rattle.profile.proofs.Logic.{and-parts, from-1-to-says}
-use Rattle.profile.proofs.Strings.{Bytes256}
 use Rattle.profile.proofs.Lookup.{times-distinct}
 use Rattle.profile.proofs.Tables.{table-slots}
 use Rattle.profile.proofs.WellFormed.{table-fits, table-distinct, count-slots, few-slots}

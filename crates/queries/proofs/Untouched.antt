@@ -4,13 +4,12 @@ use mathlib.Core.Path.{_≡_, refl}
 use mathlib.Core.List.{List}
 use mathlib.Core.Bool.{true}
 use lib.Dec.{ltb}
-use Rattle.profile.specs.Bytes.{Bytes}
+use Rattle.profile.specs.Bytes.{Bytes, Bytes256}
 use Rattle.profile.specs.Slot.{Entry, reserved, enabled, disabled}
 use Rattle.profile.specs.Table.{slotsOf, wholeSlots, wellTable}
 use Rattle.profile.specs.Request.{list, info}
 use Rattle.profile.specs.Agent.{Answer, Found, absent, one, find, times, whenFound, infoAt, act, tableAfter}
 use Rattle.profile.proofs.Logic.{if-both}
-use Rattle.profile.proofs.Strings.{Bytes256}
 use Rattle.profile.proofs.Tables.{table-slots}
 
 module _ (table : Bytes) (bytes : Bytes256 table) (whole : wholeSlots table ≡ true) (well : wellTable table ≡ true) (place : ℕ) where

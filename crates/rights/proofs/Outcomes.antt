@@ -8,13 +8,12 @@ use native.Mathlib.Omega.{arith}
 use types.Run.{OneOf}
 use denote.Enum.Declared.{tagOf}
 use lib.ListN.{set}
-use Rattle.profile.specs.Bytes.{Bytes, part}
+use Rattle.profile.specs.Bytes.{Bytes, part, Bytes256}
 use Rattle.profile.specs.Slot.{Count, Right, recount, reserved, enabled, disabled, Slot, empty, taken, inUse}
 use Rattle.profile.specs.Table.{rightOf, slotsOf}
 use Rattle.profile.specs.Frame.{duplicate}
 use Rattle.profile.specs.Request.{retrieve, query, enable, remove}
 use Rattle.profile.specs.Agent.{Given, nothing, theRight, theKey, done, onRecord, lendAt, enableAt, removeAt, act}
-use Rattle.profile.proofs.Strings.{Bytes256}
 use Rattle.slots.specs.declared.place.Place.{Place}
 use Rattle.slots.specs.declared.place.Place.the-variants.{Empty, Reserved, Enabled, Disabled}
 use Rattle.slots.proofs.place.Place.{the-type}

@@ -6,13 +6,12 @@ use mathlib.Core.Bool.{true, false, _||_, true≢false, false≢true}
 use borrow.Author.Tests.{lt-ltb, le-ltb, eq-eqb, ne-eqb}
 use lib.Dec.{leb, ltb}
 use lib.ListN.{length, set}
-use Rattle.profile.specs.Bytes.{Bytes, word}
+use Rattle.profile.specs.Bytes.{Bytes, word, Bytes256}
 use Rattle.profile.specs.Slot.{Right, reserved, enabled, disabled, Slot, empty, taken, inUse}
 use Rattle.profile.specs.Table.{placeOf, slotCount, slotsOf}
 use Rattle.profile.specs.Frame.{parameter, duplicate, noSpace}
 use Rattle.profile.specs.Request.{setup, install, cancel}
 use Rattle.profile.specs.Agent.{nothing, done, installAt, cancelAt, act, lowestEmpty}
-use Rattle.profile.proofs.Strings.{Bytes256}
 use Rattle.profile.proofs.Logic.{leb-over, or-parts}
 use Rattle.profile.proofs.Lookup.{lowestEmpty-free}
 use Rattle.slots.specs.declared.place.Place.{Place}
