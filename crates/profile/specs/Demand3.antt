@@ -1,18 +1,20 @@
 -- Demand 3, whole: what holds after every sequence of calls on an all-zero table.
 use Prim.Native.Nat.{ℕ}
 use mathlib.Core.Path.{_≡_}
-use mathlib.Core.List.{List, [], _∷_}
+use mathlib.Core.List.{List, [], _∷_, _++_}
 use mathlib.Core.Option.{some}
 use mathlib.Core.Bool.{Bool, true, false, _&&_}
 use lib.Dec.{eqb}
-use Rattle.profile.specs.Bytes.{Bytes, same, part, any}
-use Rattle.profile.specs.Slot.{Right, Entry, reserved, enabled, disabled, Slot}
-use Rattle.profile.specs.Table.{slotsOf, wholeSlots, wellTable}
-use Rattle.profile.specs.Request.{Request, setup, install, retrieve, query, enable, remove, cancel, list, info, Read, asks, refused, noFrame, readRequest}
+use lib.ListN.{take, drop, getElem?}
+use Rattle.profile.specs.Bytes.{Bytes, same, part, any, over}
+use Rattle.profile.specs.Slot.{Count, Right, Entry, reserved, enabled, disabled, Slot}
+use Rattle.profile.specs.Table.{slotBytes, slotsOf, wholeSlots, wellTable}
+use Rattle.profile.specs.Frame.{frame, writeRight}
+use Rattle.profile.specs.Request.{Request, setup, install, retrieve, query, enable, remove, cancel, list, info}
 use Rattle.profile.specs.Agent.{Call, Outcome, agent}
 use Rattle.profile.specs.History.{Owned, forUse, lent, Ledger, rightNumber, Exchange, history}
-use Rattle.profile.specs.Run.{exchangeOf, exchanges, tableAfterAll, ledgerThen, underSlots, Agrees}
-use Rattle.profile.specs.Hidden.{hidden}
+use Rattle.profile.specs.Run.{exchangeOf, exchanges, blankTable, tableAfterAll, ledgerThen, underSlots, Agrees}
+use Rattle.profile.specs.Contents.{Contents}
 
 -- ---- rights and records, one to one
 -- the right o stands under h, and e is its record
@@ -47,12 +49,25 @@ pub record KeyOut (table : Bytes) (c : Call) (h k : Bytes) : Type 0 where
 
 -- "a key goes out only for a right then for use": a right is for use under h by the ledger l, and its key is what the reply holds
 -- after its head; what was for use under h is lent under k by the ledger l′
-pub record LentOut (l l′ : Ledger) (h k reply : Bytes) : Type 0 where
+pub record LentOut (l l′ : Ledger) (asked : Request) (h k buffer reply : Bytes) : Type 0 where
   pub number : ℕ
   pub right : Right
   pub for-use : rightNumber number l ≡ some (forUse h right)
   pub sent : part 4 16 reply ≡ right .key
+  -- kind 3 sends this right whole, kind 4 its key; nothing else of the buffer is changed, so nothing of another right goes out
+  pub whole : asked ≡ retrieve h k → reply ≡ over (frame 3 0 (writeRight right)) buffer
+  pub alone : asked ≡ query h k → reply ≡ over (frame 4 0 (right .key)) buffer
   pub then-lent : (i : ℕ) (r : Right) → rightNumber i l ≡ some (forUse h r) → rightNumber i l′ ≡ some (lent k r)
+
+-- the key that goes out is that of the right of number i
+pub record KeyOf (i : ℕ) (l : Ledger) (table : Bytes) (c : Call) (h k : Bytes) : Type 0 where
+  pub out : KeyOut table c h k
+  pub right : Right
+  pub for-use : rightNumber i l ≡ some (forUse h right)
+
+-- among some exchanges is this one
+abbrev pub Among : Exchange → List Exchange → Type 0
+Among x xs = (i : ℕ) × (getElem? xs i ≡ some x)
 
 -- a return under the handle k
 abbrev pub isReturn : Bytes → Request → Bool
@@ -71,30 +86,20 @@ abbrev pub returned : Bytes → List Exchange → Bool
 returned k xs = any (λ x. eqb (x .status) 0 && isReturn k (x .request)) xs
 
 -- ---- replies that give no key
-abbrev pub isLending : Request → Bool
-isLending (setup h n) = false
-isLending (install h r) = false
-isLending (retrieve h k) = true
-isLending (query h k) = true
-isLending (enable h c) = false
-isLending (remove h) = false
-isLending (cancel h) = false
-isLending (list limit q) = false
-isLending (info h) = false
+-- slots of which each has the bytes of the other's, but for its key, bytes 11 to 26
+abbrev pub ButKeys : List Bytes → List Bytes → Type 0
+ButKeys [] [] = Unit {0}
+ButKeys [] (y ∷ ys) = ⊥
+ButKeys (x ∷ xs) [] = ⊥
+ButKeys (x ∷ xs) (y ∷ ys) = (take 11 x ≡ take 11 y) × (drop 27 x ≡ drop 27 y) × ButKeys xs ys
 
--- a request of kind 3 or 4
-abbrev pub asksForKey : Read → Bool
-asksForKey (asks q) = isLending q
-asksForKey (refused r) = false
-asksForKey noFrame = false
-
--- well-formed tables whose slots differ in keys alone
+-- well-formed tables that differ in keys alone
 pub record AlikeButKeys (table other : Bytes) : Type 0 where
   pub whole : wholeSlots table ≡ true
   pub well : wellTable table ≡ true
   pub other-whole : wholeSlots other ≡ true
   pub other-well : wellTable other ≡ true
-  pub alike : hidden (slotsOf table) ≡ hidden (slotsOf other)
+  pub alike : ButKeys (slotBytes table) (slotBytes other)
 
 -- the number and the reply are those of the other
 pub record SameReply (o p : Outcome) : Type 0 where
@@ -109,15 +114,22 @@ pub record Demand3 (n : ℕ) (cs : List Call) : Type 0 where
   -- "the requests and statuses alone tell which rights are for use, lent or gone and under which handle; the records agree exactly"
   pub agrees : Agrees (ledgerThen n cs) (slotsOf (tableAfterAll n cs))
   pub mirrors : Mirrors (ledgerThen n cs) (slotsOf (tableAfterAll n cs))
+  -- right number i has the key, hashes and payload of installation number i, and the count last given to it
+  pub contents : Contents (exchanges (blankTable n) cs) (ledgerThen n cs)
   -- "a key goes out only for a right then for use"
-  pub key-out : (c : Call) (h k : Bytes) → KeyOut (tableAfterAll n cs) c h k
-      → LentOut (ledgerThen n cs) (history (ledgerThen n cs) (exchangeOf (tableAfterAll n cs) c)) h k (agent (tableAfterAll n cs) c .reply)
+  pub key-out : (c : Call) (h k : Bytes) (o : KeyOut (tableAfterAll n cs) c h k)
+      → LentOut (ledgerThen n cs) (ledgerThen n (cs ++ (c ∷ []))) (o .asked) h k (c .buffer) (agent (tableAfterAll n cs) c .reply)
   -- if the right of number i is for use under h when its key goes out, and for use again after further calls,
   -- then among these a return under the handle k, set when the key went out, has succeeded
   pub between : (c : Call) (h k : Bytes) → KeyOut (tableAfterAll n cs) c h k → (more : List Call) (i : ℕ) (h′ : Bytes) (r r′ : Right)
       → rightNumber i (ledgerThen n cs) ≡ some (forUse h r)
       → rightNumber i (history (history (ledgerThen n cs) (exchangeOf (tableAfterAll n cs) c)) (exchanges (agent (tableAfterAll n cs) c .table) more)) ≡ some (forUse h′ r′)
       → returned k (exchanges (agent (tableAfterAll n cs) c .table) more) ≡ true
-  -- no other reply depends on any key
-  pub keys-unseen : (other : Bytes) → AlikeButKeys (tableAfterAll n cs) other → (c : Call) → asksForKey (readRequest (c .request)) ≡ false
+  -- of two replies with the key of one right, the first of which set the handle k: between them a return under k has succeeded
+  pub two-keys : (i : ℕ) (first second : Call) (more : List Call) (h k h′ k′ : Bytes)
+      → KeyOf i (ledgerThen n cs) (tableAfterAll n cs) first h k
+      → KeyOf i (ledgerThen n (cs ++ (first ∷ more))) (tableAfterAll n (cs ++ (first ∷ more))) second h′ k′
+      → (c : Count) × Among (record { request = enable k c; status = 0 }) (exchanges (tableAfterAll n (cs ++ (first ∷ []))) more)
+  -- no reply depends on any key but that of a successful kind 3 or 4: neither one to another kind, nor a refusal
+  pub keys-unseen : (other : Bytes) → AlikeButKeys (tableAfterAll n cs) other → (c : Call) → ((h k : Bytes) → KeyOut (tableAfterAll n cs) c h k → ⊥)
       → SameReply (agent (tableAfterAll n cs) c) (agent other c)

@@ -1,0 +1,78 @@
+-- Demand 3: what each right holds, told from the exchanges alone, right by right: from its installation, and from the returns that gave it a count.
+use Prim.Native.Nat.{ℕ}
+use mathlib.Core.Path.{_≡_}
+use mathlib.Core.List.{List, [], _∷_, _++_}
+use mathlib.Core.Option.{some}
+use mathlib.Core.Bool.{Bool, true, false, _&&_}
+use lib.ListN.{length, getElem?}
+use lib.Dec.{eqb}
+use Rattle.profile.specs.Bytes.{Bytes, if_then_else_, same}
+use Rattle.profile.specs.Slot.{Count, Right}
+use Rattle.profile.specs.Request.{Request, setup, install, retrieve, query, enable, remove, cancel, list, info}
+use Rattle.profile.specs.History.{Owned, forUse, lent, gone, Ledger, rightNumber, Exchange}
+
+-- ---- installations
+-- an installation that succeeded: its handle, the right that it sent, and the exchanges after it
+pub record Installed : Type 0 where
+  pub handle : Bytes
+  pub right : Right
+  pub later : List Exchange
+
+-- a request that succeeded, with the exchanges after it: kind 2 is an installation, no other is
+abbrev pub installed : Request → List Exchange → List Installed
+installed (setup h n) xs = []
+installed (install h r) xs = record { handle = h; right = r; later = xs } ∷ []
+installed (retrieve h k) xs = []
+installed (query h k) xs = []
+installed (enable h c) xs = []
+installed (remove h) xs = []
+installed (cancel h) xs = []
+installed (list limit q) xs = []
+installed (info h) xs = []
+
+-- those that succeeded, in their order
+abbrev pub installations : List Exchange → List Installed
+installations [] = []
+installations (x ∷ xs) = (if eqb (x .status) 0 then installed (x .request) xs else []) ++ installations xs
+
+-- ---- the count last given to a right
+-- a right under the handle h, lent or not, with the count c, and a request that succeeded: how it goes on
+abbrev pub follow : Bytes → Bool → Count → Request → (Bytes → Bool → Count → Count) → Count
+follow h isLent c (setup g n) on = on h isLent c
+follow h isLent c (install g r) on = on h isLent c
+-- lent from its handle, it is found under the new one
+follow h isLent c (retrieve g k) on = if same g h then on k true c else on h isLent c
+follow h isLent c (query g k) on = if same g h then on k true c else on h isLent c
+-- a return gives a lent right its count; one for use stays as it is
+follow h isLent c (enable g d) on = if same g h && isLent then on h false d else on h isLent c
+-- a right that is gone keeps the count it had
+follow h isLent c (remove g) on = if same g h then c else on h isLent c
+follow h isLent c (cancel g) on = on h isLent c
+follow h isLent c (list limit q) on = on h isLent c
+follow h isLent c (info g) on = on h isLent c
+
+-- over some exchanges, of which those with status 0 count
+abbrev pub lastCount : Bytes → Bool → Count → List Exchange → Count
+lastCount h isLent c [] = c
+lastCount h isLent c (x ∷ xs) =
+    if eqb (x .status) 0 then follow h isLent c (x .request) (λ h′ isLent′ c′. lastCount h′ isLent′ c′ xs)
+    else lastCount h isLent c xs
+
+-- ---- the ledger's rights
+-- what a right of the ledger holds, for use, lent or gone
+abbrev pub held : Owned → Right
+held (forUse h r) = r
+held (lent h r) = r
+held (gone r) = r
+
+-- "with the fields sent": key, hashes and payload of the installation; the count of the last return that gave one, or of the installation
+pub record Holds (p : Installed) (r : Right) : Type 0 where
+  pub key : r .key ≡ p .right .key
+  pub hashes : r .hashes ≡ p .right .hashes
+  pub payload : r .payload ≡ p .right .payload
+  pub count : r .count ≡ lastCount (p .handle) false (p .right .count) (p .later)
+
+-- as many rights as installations, and right number i holds what installation number i sent
+pub record Contents (xs : List Exchange) (l : Ledger) : Type 0 where
+  pub as-many : length (l .rights) ≡ length (installations xs)
+  pub each : (i : ℕ) (o : Owned) (p : Installed) → rightNumber i l ≡ some o → getElem? (installations xs) i ≡ some p → Holds p (held o)
