@@ -1,20 +1,20 @@
 -- A frame that reads as a request is written again, by the device's writer and from the fields read, to the same bytes, but for a verdict of 0 in kinds 8 and 9.
 use Prim.Native.Nat.{ℕ, zero, suc, _+_, _*_, _/_, _%_, _≤_}
 use mathlib.Core.Path.{_≡_, refl, sym, ap, _∙_}
-use mathlib.Core.List.{List, [], _∷_, _++_, append-nil}
+use mathlib.Core.List.{List, [], _∷_, append-nil}
 use mathlib.Core.Option.{Option, none, some}
 use mathlib.Core.Bool.{Bool, true, false, _&&_}
 use native.Mathlib.Omega.{arith}
 use lib.Dec.{eqb, leb}
-use lib.ListN.{length, getD, drop, length-drop}
+use lib.ListN.{length, drop, length-drop}
 use lib.Seq.{drop-cons}
 use Rattle.profile.specs.Bytes.{Bytes, Bytes256, byte, word, zeros, over, joined, pieces}
-use Rattle.profile.specs.Slot.{hashSize, mostHashes, Right, HashesFit}
-use Rattle.profile.specs.Frame.{Kind, Setup, Install, Retrieve, Query, Enable, Remove, Cancel, List', Info, kindOf, kindNumber, isFrame}
-use Rattle.profile.specs.Request.{Request, setup, install, retrieve, query, enable, remove, cancel, list, info, asks, verdict, guarded, fields, readRequest, writeRequest, withVerdict, RequestFits}
-use Rattle.profile.specs.Device.{Fields, wholeHashes, kindHolds, hashesOf, requestOf, fieldsIn, Written, write}
+use Rattle.profile.specs.Slot.{hashSize, mostHashes, HashesFit}
+use Rattle.profile.specs.Frame.{Kind, Setup, Install, Retrieve, Query, Enable, Remove, Cancel, List', Info, kindOf, kindNumber}
+use Rattle.profile.specs.Request.{Request, setup, install, retrieve, query, enable, remove, cancel, list, info, asks, verdict, guarded, fields, readRequest, withVerdict, RequestFits}
+use Rattle.profile.specs.Device.{wholeHashes, kindHolds, requestOf, fieldsIn, Written, write}
 use Rattle.profile.specs.Theorems.{WrittenAgain}
-use Rattle.profile.proofs.Logic.{both, and-parts, eqb-eq, eqb-true, leb-le, leb-true, ltb-false, from-1-to, positive}
+use Rattle.profile.proofs.Logic.{both, and-parts, eqb-true, leb-le, leb-true, ltb-false, from-1-to, positive}
 use Rattle.profile.proofs.Strings.{length-each, pieces-joined}
 use Rattle.profile.proofs.Frames.{Reads, reads}
 use Rattle.profile.proofs.Requests.{read-fits, write-reads}

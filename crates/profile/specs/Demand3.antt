@@ -1,18 +1,19 @@
 -- Demand 3, whole: what holds after every sequence of calls on an all-zero table.
 use Prim.Native.Nat.{ℕ}
 use mathlib.Core.Path.{_≡_}
+use mathlib.Core.Logic.{_↔_}
 use mathlib.Core.List.{List, [], _∷_, _++_}
 use mathlib.Core.Option.{some}
 use mathlib.Core.Bool.{Bool, true, false, _&&_}
 use lib.Dec.{eqb}
-use lib.ListN.{take, drop, getElem?}
-use Rattle.profile.specs.Bytes.{Bytes, same, part, any, over}
-use Rattle.profile.specs.Slot.{Count, Right, Entry, reserved, enabled, disabled, Slot}
+use lib.ListN.{getElem?, take, drop}
+use Rattle.profile.specs.Bytes.{Bytes, same, part, any, In, over}
+use Rattle.profile.specs.Slot.{Count, Right, Entry, reserved, enabled, disabled, Slot, taken}
 use Rattle.profile.specs.Table.{slotBytes, slotsOf, wholeSlots, wellTable}
 use Rattle.profile.specs.Frame.{frame, writeRight}
 use Rattle.profile.specs.Request.{Request, setup, install, retrieve, query, enable, remove, cancel, list, info}
 use Rattle.profile.specs.Agent.{Call, Outcome, agent}
-use Rattle.profile.specs.History.{Owned, forUse, lent, Ledger, rightNumber, Exchange, history}
+use Rattle.profile.specs.History.{open-setup, Owned, forUse, lent, Ledger, rightNumber, Exchange, history}
 use Rattle.profile.specs.Run.{exchangeOf, exchanges, blankTable, tableAfterAll, ledgerThen, underSlots, Agrees}
 use Rattle.profile.specs.Contents.{Contents}
 
@@ -34,6 +35,14 @@ pub record Mirrors (l : Ledger) (t : List Slot) : Type 0 where
   pub recorded : (i : ℕ) (o : Owned) (h : Bytes) (e : Entry) → rightNumber i l ≡ some o → Stands o h e → underSlots h t ≡ e ∷ []
   pub righted : (h : Bytes) (e : Entry) → IsRight e → underSlots h t ≡ e ∷ [] → (i : ℕ) × (o : Owned) × (rightNumber i l ≡ some o) × Stands o h e
   pub single : (i j : ℕ) (o u : Owned) (h : Bytes) (e f : Entry) → rightNumber i l ≡ some o → Stands o h e → rightNumber j l ≡ some u → Stands u h f → i ≡ j
+
+-- the same, place by place and right by right: an enabled record for each right for use, a disabled one for each that is lent, a reserved one for
+-- each setup still open, under the same handle and with the same content, and no other record; no two records under one handle
+pub record Records (l : Ledger) (t : List Slot) : Type 0 where
+  pub used : (h : Bytes) (r : Right) → In (taken h (enabled r)) t ↔ In (forUse h r) (l .rights)
+  pub away : (h : Bytes) (r : Right) → In (taken h (disabled r)) t ↔ In (lent h r) (l .rights)
+  pub awaited : (h : Bytes) (n : ℕ) → In (taken h (reserved n)) t ↔ In (open-setup h n) (l .setups)
+  pub apart : (i j : ℕ) (h : Bytes) (e f : Entry) → getElem? t i ≡ some (taken h e) → getElem? t j ≡ some (taken h f) → i ≡ j
 
 -- ---- keys that go out, and returns
 -- kinds 3 and 4: the request, the handle and the new handle
@@ -64,10 +73,6 @@ pub record KeyOf (i : ℕ) (l : Ledger) (table : Bytes) (c : Call) (h k : Bytes)
   pub out : KeyOut table c h k
   pub right : Right
   pub for-use : rightNumber i l ≡ some (forUse h right)
-
--- among some exchanges is this one
-abbrev pub Among : Exchange → List Exchange → Type 0
-Among x xs = (i : ℕ) × (getElem? xs i ≡ some x)
 
 -- a return under the handle k
 abbrev pub isReturn : Bytes → Request → Bool
@@ -114,6 +119,7 @@ pub record Demand3 (n : ℕ) (cs : List Call) : Type 0 where
   -- "the requests and statuses alone tell which rights are for use, lent or gone and under which handle; the records agree exactly"
   pub agrees : Agrees (ledgerThen n cs) (slotsOf (tableAfterAll n cs))
   pub mirrors : Mirrors (ledgerThen n cs) (slotsOf (tableAfterAll n cs))
+  pub records : Records (ledgerThen n cs) (slotsOf (tableAfterAll n cs))
   -- right number i has the key, hashes and payload of installation number i, and the count last given to it
   pub contents : Contents (exchanges (blankTable n) cs) (ledgerThen n cs)
   -- "a key goes out only for a right then for use"
@@ -129,7 +135,7 @@ pub record Demand3 (n : ℕ) (cs : List Call) : Type 0 where
   pub two-keys : (i : ℕ) (first second : Call) (more : List Call) (h k h′ k′ : Bytes)
       → KeyOf i (ledgerThen n cs) (tableAfterAll n cs) first h k
       → KeyOf i (ledgerThen n (cs ++ (first ∷ more))) (tableAfterAll n (cs ++ (first ∷ more))) second h′ k′
-      → (c : Count) × Among (record { request = enable k c; status = 0 }) (exchanges (tableAfterAll n (cs ++ (first ∷ []))) more)
+      → (c : Count) × In (record { request = enable k c; status = 0 }) (exchanges (tableAfterAll n (cs ++ (first ∷ []))) more)
   -- no reply depends on any key but that of a successful kind 3 or 4: neither one to another kind, nor a refusal
   pub keys-unseen : (other : Bytes) → AlikeButKeys (tableAfterAll n cs) other → (c : Call) → ((h k : Bytes) → KeyOut (tableAfterAll n cs) c h k → ⊥)
       → SameReply (agent (tableAfterAll n cs) c) (agent other c)

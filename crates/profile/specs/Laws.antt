@@ -1,0 +1,78 @@
+-- Rules of document 01 said once more, each in another way than its definition says it: so that a wrong definition is refused.
+use Prim.Native.Nat.{ℕ, _+_, _*_, _≤_, _<_}
+use mathlib.Core.Path.{_≡_}
+use mathlib.Core.Logic.{_⊎_, _↔_}
+use mathlib.Core.List.{List, [], _∷_, _++_}
+use mathlib.Core.Option.{some}
+use mathlib.Core.Bool.{Bool, true, false}
+use lib.Dec.{eqb}
+use lib.ListN.{length, getElem?, set}
+use Rattle.profile.specs.Bytes.{Bytes, In, over}
+use Rattle.profile.specs.Slot.{Right, Entry, reserved, enabled, disabled, Slot, empty, taken}
+use Rattle.profile.specs.Frame.{kindNumber, statusIn}
+use Rattle.profile.specs.Agent.{Given, handles, Found, absent, one, Call, Outcome}
+
+-- ---- "Slots"
+-- "no two non-empty slots have the same handle": where two slots are under one handle, they are one slot
+abbrev pub Apart : List Slot → Type 0
+Apart t = (i j : ℕ) (h : Bytes) (e f : Entry) → getElem? t i ≡ some (taken h e) → getElem? t j ≡ some (taken h f) → i ≡ j
+
+-- ---- "Numbers and statuses"
+-- a call that gives a number changes nothing; one that gives a status writes four bytes, the kind as asked and the status in them, and changes nothing else
+pub record Refuses (table : Bytes) (c : Call) (o : Outcome) : Type 0 where
+  pub by-number : eqb (o .number) 0 ≡ false → (o .reply ≡ c .buffer) × (o .table ≡ table)
+  pub by-status : eqb (o .number) 0 ≡ true → eqb (statusIn (o .reply)) 0 ≡ false
+      → (o .reply ≡ over ((32 + kindNumber (c .request)) ∷ statusIn (o .reply) ∷ 0 ∷ 0 ∷ []) (c .buffer)) × (o .table ≡ table)
+
+-- a handle is found in a slot that has it, and is absent where no slot has it
+abbrev pub FoundIs : Bytes → List Slot → Found → Type 0
+FoundIs h t absent = (i : ℕ) (e : Entry) → getElem? t i ≡ some (taken h e) → ⊥
+FoundIs h t (one i e) = getElem? t i ≡ some (taken h e)
+
+-- "The lowest empty slot becomes reserved": of the slots t, the one that a setup takes is empty, no lower one is, and it alone is changed
+pub record SetsLowest (t : List Slot) (h : Bytes) (n : ℕ) (u : List Slot) : Type 0 where
+  pub place : ℕ
+  pub is-empty : getElem? t place ≡ some empty
+  pub none-lower : (i : ℕ) → i < place → getElem? t i ≡ some empty → ⊥
+  pub after : u ≡ set t place (taken h (reserved n))
+
+-- ---- kind 8
+-- a right has "some hash of the request", or none was asked for
+abbrev pub AskedFor : List Bytes → Right → Type 0
+AskedFor q r = (q ≡ []) ⊎ ((x : Bytes) × In x q × In x (r .hashes))
+
+-- "in slot order and each once, the handles of enabled records" asked for: slot by slot
+pub data InSlotOrder (q : List Bytes) : List Slot → List Bytes → Type 0 where
+  no-slot : InSlotOrder q [] []
+  asked-for : {h : Bytes} {r : Right} {t : List Slot} {hs : List Bytes} → AskedFor q r → InSlotOrder q t hs → InSlotOrder q (taken h (enabled r) ∷ t) (h ∷ hs)
+  not-asked : {h : Bytes} {r : Right} {t : List Slot} {hs : List Bytes} → (AskedFor q r → ⊥) → InSlotOrder q t hs → InSlotOrder q (taken h (enabled r) ∷ t) hs
+  is-lent : {h : Bytes} {r : Right} {t : List Slot} {hs : List Bytes} → InSlotOrder q t hs → InSlotOrder q (taken h (disabled r) ∷ t) hs
+  is-reserved : {h : Bytes} {n : ℕ} {t : List Slot} {hs : List Bytes} → InSlotOrder q t hs → InSlotOrder q (taken h (reserved n) ∷ t) hs
+  is-empty : {t : List Slot} {hs : List Bytes} → InSlotOrder q t hs → InSlotOrder q (empty ∷ t) hs
+
+-- an enabled record under h that is asked for
+pub record Shown (q : List Bytes) (t : List Slot) (h : Bytes) : Type 0 where
+  pub slot : ℕ
+  pub right : Right
+  pub stands : getElem? t slot ≡ some (taken h (enabled right))
+  pub asked : AskedFor q right
+
+-- "Limit 0 is none; otherwise the first whole handles that fit in limit bytes. More is 1 exactly if a handle was left off."
+pub record WithinLimit (limit : ℕ) (hs : List Bytes) (g : Given) : Type 0 where
+  pub first : List Bytes
+  pub left-off : List Bytes
+  pub parts : hs ≡ first ++ left-off
+  pub more : Bool
+  pub gives : g ≡ handles more first
+  pub no-limit : limit ≡ 0 → left-off ≡ []
+  pub fit : 1 ≤ limit → 10 * length first ≤ limit
+  pub no-more-fit : 1 ≤ length left-off → limit < 10 * length first + 10
+  pub says-more : 1 ≤ length left-off → more ≡ true
+  pub says-all : left-off ≡ [] → more ≡ false
+
+-- what kind 8 gives: the handles asked for, as many as the limit lets; a handle is one of them exactly if an enabled record under it is asked for
+pub record ListsExactly (limit : ℕ) (q : List Bytes) (t : List Slot) (g : Given) : Type 0 where
+  pub all : List Bytes
+  pub ordered : InSlotOrder q t all
+  pub exact : (h : Bytes) → In h all ↔ Shown q t h
+  pub limited : WithinLimit limit all g
