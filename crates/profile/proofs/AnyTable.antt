@@ -39,7 +39,7 @@ one-more : (b : Bool) (e : Entry) (xs : List Entry) (n : ℕ) → length xs ≡ 
 one-more true e xs n p = ap suc p
 one-more false e xs n p = p
 
-count-under : (h : Bytes) (t : List Slot) → length (underSlots h t) ≡ times h t
+pub count-under : (h : Bytes) (t : List Slot) → length (underSlots h t) ≡ times h t
 count-under h [] = refl
 count-under h (empty ∷ t) = count-under h t
 count-under h (taken k e ∷ t) = one-more (same h k) e (underSlots h t) (times h t) (count-under h t)

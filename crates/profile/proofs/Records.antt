@@ -2,15 +2,15 @@
 use Prim.Native.Nat.{ℕ, zero, suc}
 use mathlib.Core.Path.{_≡_, refl, sym, ap, _∙_, subst}
 use mathlib.Core.Logic.{_⊎_, inl, inr}
-use mathlib.Core.List.{List, [], _∷_, _++_, map, List·Memᴰ, List·Memᴰ·head, List·Memᴰ·append-cases, List·Memᴰ·eq-of-singleton, List·Memᴰ·not-nil, Memᴰ·append-left, Memᴰ·append-right}
+use mathlib.Core.List.{List, [], _∷_, map, List·Memᴰ, List·Memᴰ·head, List·Memᴰ·append-cases, List·Memᴰ·eq-of-singleton, List·Memᴰ·not-nil, Memᴰ·append-left, Memᴰ·append-right}
 use mathlib.Core.Bool.{true}
 use mathlib.Core.Option.{Option, some, Option·some-injective}
-use lib.ListN.{length, getElem?}
+use lib.ListN.{getElem?}
 use Rattle.profile.specs.Bytes.{Bytes, joined, In}
 use Rattle.profile.specs.Slot.{Right, Entry, reserved, enabled, disabled, Slot, empty, taken, distinct}
-use Rattle.profile.specs.History.{Ledger, Opened, open-setup, Owned, forUse, lent, gone, rightNumber}
-use Rattle.profile.specs.Run.{underSlot, underSetup, underRight, underSlots, underLedger, Agrees}
-use Rattle.profile.specs.Demand3.{Stands, for-use, is-lent, Mirrors, Records}
+use Rattle.profile.specs.History.{Ledger, Opened, open-setup, Owned, forUse, lent, gone}
+use Rattle.profile.specs.Run.{underSlot, underSetup, underRight, underSlots, Agrees}
+use Rattle.profile.specs.Demand3.{Stands, for-use, is-lent, Records}
 use Rattle.profile.proofs.Logic.{same-refl, split}
 use Rattle.profile.proofs.Laws.{not-there, apart}
 use Rattle.profile.proofs.Mirror.{only-one, mirrors}

@@ -1,15 +1,85 @@
--- draft
+-- What is proved of the definitions, whole: one statement, with a field for each theorem, in the order of document 01. Its proof is `theorems`,
+-- crates/profile/proofs/Theorems.antt; to believe a theorem, read it here.
 use Prim.Native.Nat.{ℕ, _≤_}
 use mathlib.Core.Path.{_≡_}
+use mathlib.Core.List.{List}
 use mathlib.Core.Option.{some}
+use mathlib.Core.Bool.{true, false}
+use lib.Dec.{T, eqb}
 use lib.ListN.{length}
-use Rattle.profile.specs.Bytes.{Bytes, over}
-use Rattle.profile.specs.Frame.{Kind, kindOf, kindNumber}
-use Rattle.profile.specs.Request.{Request, asks, readRequest, writeRequest, withVerdict}
-use Rattle.profile.specs.Device.{Fields, requestOf, fieldsIn, Written, write}
+use Rattle.profile.specs.Bytes.{Bytes, Bytes256, over, all}
+use Rattle.profile.specs.Slot.{Slot, distinct, SlotFits, TableFits}
+use Rattle.profile.specs.Table.{slotSize, unpack, pack, wellSlot, slotsOf, tableOf, wholeSlots, wellTable}
+use Rattle.profile.specs.Frame.{Kind, kindOf, kindNumber, statusIn}
+use Rattle.profile.specs.Request.{Request, setup, list, asks, readRequest, writeRequest, withVerdict, RequestFits}
+use Rattle.profile.specs.Agent.{Given, Answer, done, find, act, lowestEmpty, replyFrame, Call, Outcome, replied, agent}
+use Rattle.profile.specs.Device.{Fields, requestOf, fieldsIn, Arrays, Written, write, readReply, sent}
+use Rattle.profile.specs.Cases.{cases, holds}
+use Rattle.profile.specs.Demand3.{Demand3}
+use Rattle.profile.specs.Laws.{Apart, Refuses, FoundIs, SetsLowest, ListsExactly}
+
+-- ---- the words of the theorems below
+-- the slots that a well-formed table holds: of their sizes, their handles distinct, and packed they are the table
+pub record Unpacks (table : Bytes) : Type 0 where
+  pub fit : TableFits (slotsOf table)
+  pub apart : distinct (slotsOf table) ≡ true
+  pub again : tableOf (slotsOf table) ≡ table
+
+-- the table of some slots: well formed, and unpacked it is these slots
+pub record Packs (t : List Slot) : Type 0 where
+  pub whole : wholeSlots (tableOf t) ≡ true
+  pub well : wellTable (tableOf t) ≡ true
+  pub again : slotsOf (tableOf t) ≡ t
+
+-- a table whole and well formed
+pub record Stays (table : Bytes) : Type 0 where
+  pub whole : wholeSlots table ≡ true
+  pub well : wellTable table ≡ true
+
+-- what the device's writer leaves with the number 0: the frame of the fields at the start of the buffer, which fits it and reads back to the fields
+pub record ReadsBack (kind : ℕ) (f : Fields) (buffer : Bytes) (o : Written) : Type 0 where
+  pub of-kind : Kind
+  pub number : kindOf kind ≡ some of-kind
+  pub starts : o .buffer ≡ over (writeRequest (requestOf of-kind f)) buffer
+  pub short : length (writeRequest (requestOf of-kind f)) ≤ length buffer
+  pub read : readRequest (writeRequest (requestOf of-kind f)) ≡ asks (requestOf of-kind f)
 
 -- the device's writer, given the fields that a frame f of some kind was read to, writes f again: in kinds 1 to 7 the same bytes, and in every
 -- kind the same but for a verdict of 0, which becomes 1
 pub record WrittenAgain (f : Bytes) (q : Request) (buffer : Bytes) : Type 0 where
   pub same-bytes : kindNumber f ≤ 7 → write (kindNumber f) (fieldsIn q) buffer ≡ record { number = 0; buffer = over f buffer }
   pub but-verdict : write (kindNumber f) (fieldsIn q) buffer ≡ record { number = 0; buffer = over (withVerdict f) buffer }
+
+-- a reply of the agent's: that of an answer, of at most 4,279 bytes, and read by the device to the answer's kind, and to its status or what it gives
+pub record Readable (table : Bytes) (c : Call) (o : Outcome) : Type 0 where
+  pub answer : Answer
+  pub replies : o ≡ replied (kindNumber (c .request)) answer table (c .buffer)
+  pub short : length (replyFrame (kindNumber (c .request)) answer) ≤ 4279
+  pub read : readReply (replyFrame (kindNumber (c .request)) answer) ≡ sent (kindNumber (c .request)) answer
+
+-- ---- the theorems
+pub record Theorems : Type 0 where
+  -- "Slots": bytes and what they hold, both ways
+  pub unpack-pack : (s : Slot) → SlotFits s → unpack (pack s) ≡ s
+  pub pack-unpack : (s : Bytes) → length s ≡ slotSize → Bytes256 s → wellSlot s ≡ true → pack (unpack s) ≡ s
+  pub unpacks : (table : Bytes) → Bytes256 table → wholeSlots table ≡ true → wellTable table ≡ true → Unpacks table
+  pub packs : (t : List Slot) → TableFits t → distinct t ≡ true → 1 ≤ length t → length t ≤ 15 → Packs t
+  pub apart : (t : List Slot) → distinct t ≡ true → Apart t
+  -- "Frames": "A written request reads back to its fields. A frame that reads as a request is written again to the same bytes, but for a verdict of 0"
+  pub read-write : (q : Request) → RequestFits q → readRequest (writeRequest q) ≡ asks q
+  pub written-reads : (kind : ℕ) (f : Fields) (buffer : Bytes) → Arrays f → eqb (write kind f buffer .number) 0 ≡ true → ReadsBack kind f buffer (write kind f buffer)
+  pub written-again : (f : Bytes) (q : Request) → Bytes256 f → readRequest f ≡ asks q → (buffer : Bytes) → length f ≤ length buffer → WrittenAgain f q buffer
+  -- every reply is read back
+  pub replies-read : (table : Bytes) (c : Call) → eqb (agent table c .number) 0 ≡ true → Readable table c (agent table c)
+  -- "Numbers and statuses": refusals change nothing; status 8 is never given; a well-formed table stays so
+  pub refuses : (table : Bytes) (c : Call) → Refuses table c (agent table c)
+  pub never-8 : (table : Bytes) (c : Call) → eqb (agent table c .number) 0 ≡ true → eqb (statusIn (agent table c .reply)) 8 ≡ false
+  pub stays-well : (table : Bytes) → Bytes256 table → wholeSlots table ≡ true → wellTable table ≡ true → (c : Call) → Stays (agent table c .table)
+  -- the slot found under a handle, the slot that a setup takes, the handles listed
+  pub found-is : (h : Bytes) (t : List Slot) → FoundIs h t (find h t)
+  pub sets-lowest : (t : List Slot) (h : Bytes) (n : ℕ) (g : Given) (u : List Slot) → act (lowestEmpty t) t (setup h n) ≡ done g u → SetsLowest t h n u
+  pub lists-exactly : (place : ℕ) (t : List Slot) (limit : ℕ) (q : List Bytes) → (g : Given) × (act place t (list limit q) ≡ done g t) × ListsExactly limit q t g
+  -- "Examples"
+  pub cases-hold : T (all holds cases)
+  -- demand 3, of every table of 1 to 15 slots and every sequence of calls
+  pub demand-3 : (n : ℕ) → 1 ≤ n → n ≤ 15 → (cs : List Call) → Demand3 n cs

@@ -8,7 +8,8 @@ use Rattle.profile.specs.Bytes.{Bytes, over}
 use Rattle.profile.specs.Frame.{kindNumber}
 use Rattle.profile.specs.Agent.{Answer, replyFrame, Call, Outcome, replied, agent}
 use Rattle.profile.specs.Device.{sent}
-use Rattle.profile.proofs.Replies.{Readable, replies-read}
+use Rattle.profile.specs.Theorems.{Readable}
+use Rattle.profile.proofs.Replies.{replies-read}
 use Rattle.reply_reader.specs.Told.{meaning, told}
 use Rattle.reply_reader.proofs.Meanings.{told-means}
 

@@ -9,8 +9,9 @@ use lib.Seq.{take-at, drop-at}
 use Rattle.profile.specs.Bytes.{Bytes, over}
 use Rattle.profile.specs.Frame.{Kind, kindOf}
 use Rattle.profile.specs.Request.{asks, readRequest, writeRequest}
-use Rattle.profile.specs.Device.{Fields, requestOf, Written, write}
-use Rattle.profile.proofs.Writer.{Arrays, ReadsBack, written-reads}
+use Rattle.profile.specs.Device.{Fields, requestOf, Arrays, Written, write}
+use Rattle.profile.specs.Theorems.{ReadsBack}
+use Rattle.profile.proofs.Writer.{written-reads}
 use Rattle.requests.specs.declared.asked.Asked.{Asked}
 use Rattle.requests.specs.Answer.{meaning, Answers}
 use Rattle.request_writer.specs.Writing.{wrote}

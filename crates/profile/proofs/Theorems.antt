@@ -1,0 +1,52 @@
+-- All theorems of the profile, as the page specs/Theorems.antt states them.
+use mathlib.Core.Bool.{true}
+use Prim.Native.Nat.{_≤_}
+use mathlib.Core.Path.{_≡_}
+use mathlib.Core.List.{List}
+use lib.ListN.{length}
+use Rattle.profile.specs.Slot.{Slot, distinct, TableFits}
+use Rattle.profile.specs.Theorems.{Packs, Theorems}
+use Rattle.profile.proofs.Pack.{unpack-pack}
+use Rattle.profile.proofs.Unpack.{pack-unpack}
+use Rattle.profile.proofs.Tables.{slots-table, table-slots, well-table, whole-table}
+use Rattle.profile.proofs.WellFormed.{table-fits, table-distinct}
+use Rattle.profile.proofs.Lookup.{times-distinct}
+use Rattle.profile.proofs.Requests.{read-write}
+use Rattle.profile.proofs.Writer.{written-reads}
+use Rattle.profile.proofs.WrittenAgain.{written-again}
+use Rattle.profile.proofs.Replies.{replies-read}
+use Rattle.profile.proofs.Statuses.{never-8}
+use Rattle.profile.proofs.AnyTable.{count-under, stays-well}
+use Rattle.profile.proofs.Laws.{apart, refuses, found-is, sets-lowest, lists-exactly}
+use Rattle.profile.proofs.Cases.{cases-hold}
+use Rattle.profile.proofs.Demand3.{demand-3}
+
+packs : (t : List Slot) → TableFits t → distinct t ≡ true → 1 ≤ length t → length t ≤ 15 → Packs t
+packs t f d some few =
+    record {
+      whole = whole-table t f some few;
+      well = well-table t f (λ h. rw (count-under h t) (times-distinct h t d));
+      again = slots-table t f;
+    }
+
+pub theorems : Theorems
+theorems =
+    record {
+      unpack-pack = unpack-pack;
+      pack-unpack = pack-unpack;
+      unpacks = λ table y whole well. record { fit = table-fits table whole well; apart = table-distinct table whole well; again = table-slots table y whole well };
+      packs = packs;
+      apart = apart;
+      read-write = read-write;
+      written-reads = written-reads;
+      written-again = written-again;
+      replies-read = replies-read;
+      refuses = refuses;
+      never-8 = never-8;
+      stays-well = λ table y whole well c. let s = stays-well table y whole well c in record { whole = s .0; well = s .1 };
+      found-is = found-is;
+      sets-lowest = sets-lowest;
+      lists-exactly = lists-exactly;
+      cases-hold = cases-hold;
+      demand-3 = demand-3;
+    }
