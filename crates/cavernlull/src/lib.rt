@@ -8,11 +8,10 @@ ghost use mathlib.Core.Path.{_≡_};
 ghost use lib.ListN.{length};
 ghost use Rattle.profile.specs.Agent.{agent as agentOf};
 ghost use Rattle.profile.specs.Bytes.{over};
-ghost use Rattle.profile.specs.Device.{write};
+ghost use Rattle.profile.specs.Device.{fieldsWith, write};
 ghost use Rattle.profile.specs.Listing.{listing};
 ghost use Rattle.agent.specs.Call.{outcome, callOf};
 ghost use Rattle.request_writer.specs.Writing.{wrote};
-ghost use Rattle.cavernlull.specs.Given.{fields as fieldsOf};
 ghost use Rattle.cavernlull.specs.Numbers.{left, ReadsInto};
 
 // "One call takes a request frame, a lent table of slots and a lent reply buffer."
@@ -37,7 +36,7 @@ pub extern "C" fn cavernlull_write_request(
     payload: &[u8],
     out: &mut [u8],
 ) -> u16
-    ensures { λ r. ⌜ wrote r (now (out .exit)) ≡ write kind (fieldsOf (now (handle .entry)) (now (new .entry)) (now (key .entry)) room count limit (now (hashes .entry)) (now (payload .entry))) (now (out .entry)) ⌝ }
+    ensures { λ r. ⌜ wrote r (now (out .exit)) ≡ write kind (fieldsWith (now (handle .entry)) (now (new .entry)) (now (key .entry)) room count limit (now (hashes .entry)) (now (payload .entry))) (now (out .entry)) ⌝ }
 {
     let plain = Plain {
         handle: *handle,

@@ -6,12 +6,14 @@ use mathlib.Core.List.{List}
 use lib.ListN.{length}
 use Rattle.profile.specs.Slot.{Slot, distinct, TableFits}
 use Rattle.profile.specs.Theorems.{Packs, Theorems}
+use Rattle.profile.proofs.Strings.{bytes-256}
 use Rattle.profile.proofs.Pack.{unpack-pack}
 use Rattle.profile.proofs.Unpack.{pack-unpack}
 use Rattle.profile.proofs.Tables.{slots-table, table-slots, well-table, whole-table}
 use Rattle.profile.proofs.WellFormed.{table-fits, table-distinct}
 use Rattle.profile.proofs.Lookup.{times-distinct}
-use Rattle.profile.proofs.Requests.{read-write}
+use Rattle.profile.proofs.Frames.{reads}
+use Rattle.profile.proofs.Requests.{read-fits, read-write}
 use Rattle.profile.proofs.Writer.{written-reads}
 use Rattle.profile.proofs.WrittenAgain.{written-again}
 use Rattle.profile.proofs.Replies.{replies-read}
@@ -32,11 +34,13 @@ packs t f d some few =
 pub theorems : Theorems
 theorems =
     record {
+      bytes-256 = bytes-256;
       unpack-pack = unpack-pack;
       pack-unpack = pack-unpack;
       unpacks = λ table y whole well. record { fit = table-fits table whole well; apart = table-distinct table whole well; again = table-slots table y whole well };
       packs = packs;
       apart = apart;
+      read-fits = λ f q e. read-fits f q (rw e at (reads f));
       read-write = read-write;
       written-reads = written-reads;
       written-again = written-again;

@@ -12,7 +12,7 @@ use Rattle.profile.specs.Slot.{Count, Right, Entry, reserved, enabled, d
 use Rattle.profile.specs.Table.{slotBytes, slotsOf, wholeSlots, wellTable}
 use Rattle.profile.specs.Frame.{frame, writeRight}
 use Rattle.profile.specs.Request.{Request, setup, install, retrieve, query, enable, remove, cancel, list, info}
-use Rattle.profile.specs.Agent.{Call, Outcome, agent}
+use Rattle.profile.specs.Agent.{Call, agent}
 use Rattle.profile.specs.History.{open-setup, Owned, forUse, lent, Ledger, rightNumber, Exchange, history}
 use Rattle.profile.specs.Run.{exchangeOf, exchanges, blankTable, tableAfterAll, ledgerThen, underSlots, Agrees}
 use Rattle.profile.specs.Contents.{Contents}
@@ -106,11 +106,6 @@ pub record AlikeButKeys (table other : Bytes) : Type 0 where
   pub other-well : wellTable other ≡ true
   pub alike : ButKeys (slotBytes table) (slotBytes other)
 
--- the number and the reply are those of the other
-pub record SameReply (o p : Outcome) : Type 0 where
-  pub number : o .number ≡ p .number
-  pub reply : o .reply ≡ p .reply
-
 -- ---- the demand, after the calls cs on an all-zero table of n slots
 pub record Demand3 (n : ℕ) (cs : List Call) : Type 0 where
   -- the table is whole and well formed
@@ -138,4 +133,4 @@ pub record Demand3 (n : ℕ) (cs : List Call) : Type 0 where
       → (c : Count) × In (record { request = enable k c; status = 0 }) (exchanges (tableAfterAll n (cs ++ (first ∷ []))) more)
   -- no reply depends on any key but that of a successful kind 3 or 4: neither one to another kind, nor a refusal
   pub keys-unseen : (other : Bytes) → AlikeButKeys (tableAfterAll n cs) other → (c : Call) → ((h k : Bytes) → KeyOut (tableAfterAll n cs) c h k → ⊥)
-      → SameReply (agent (tableAfterAll n cs) c) (agent other c)
+      → (agent (tableAfterAll n cs) c .number ≡ agent other c .number) × (agent (tableAfterAll n cs) c .reply ≡ agent other c .reply)

@@ -5,7 +5,7 @@ use mathlib.Core.Path.{_≡_}
 use mathlib.Core.List.{List}
 use mathlib.Core.Option.{some}
 use mathlib.Core.Bool.{true, false}
-use lib.Dec.{T, eqb}
+use lib.Dec.{T, eqb, ltb}
 use lib.ListN.{length}
 use Rattle.profile.specs.Bytes.{Bytes, Bytes256, over, all}
 use Rattle.profile.specs.Slot.{Slot, distinct, SlotFits, TableFits}
@@ -59,6 +59,8 @@ pub record Readable (table : Bytes) (c : Call) (o : Outcome) : Type 0 where
 
 -- ---- the theorems
 pub record Theorems : Type 0 where
+  -- a byte string whose bytes are all under 256 is one of the code's
+  pub bytes-256 : (s : Bytes) → T (all (λ b. ltb b 256) s) → Bytes256 s
   -- "Slots": bytes and what they hold, both ways
   pub unpack-pack : (s : Slot) → SlotFits s → unpack (pack s) ≡ s
   pub pack-unpack : (s : Bytes) → length s ≡ slotSize → Bytes256 s → wellSlot s ≡ true → pack (unpack s) ≡ s
@@ -66,6 +68,7 @@ pub record Theorems : Type 0 where
   pub packs : (t : List Slot) → TableFits t → distinct t ≡ true → 1 ≤ length t → length t ≤ 15 → Packs t
   pub apart : (t : List Slot) → distinct t ≡ true → Apart t
   -- "Frames": "A written request reads back to its fields. A frame that reads as a request is written again to the same bytes, but for a verdict of 0"
+  pub read-fits : (f : Bytes) (q : Request) → readRequest f ≡ asks q → RequestFits q
   pub read-write : (q : Request) → RequestFits q → readRequest (writeRequest q) ≡ asks q
   pub written-reads : (kind : ℕ) (f : Fields) (buffer : Bytes) → Arrays f → eqb (write kind f buffer .number) 0 ≡ true → ReadsBack kind f buffer (write kind f buffer)
   pub written-again : (f : Bytes) (q : Request) → Bytes256 f → readRequest f ≡ asks q → (buffer : Bytes) → length f ≤ length buffer → WrittenAgain f q buffer
