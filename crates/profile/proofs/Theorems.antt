@@ -20,7 +20,7 @@ use Rattle.profile.proofs.Replies.{replies-read}
 use Rattle.profile.proofs.Statuses.{never-8}
 use Rattle.profile.proofs.AnyTable.{count-under, stays-well}
 use Rattle.profile.proofs.Laws.{apart, refuses, found-is, sets-lowest, lists-exactly}
-use Rattle.profile.proofs.Cases.{cases-hold}
+use Rattle.profile.proofs.Cases.{bytes-hold, tables-hold, requests-hold, acts-hold, cases-hold, writer-hold, replies-hold, listings-hold, histories-hold}
 use Rattle.profile.proofs.Demand3.{demand-3}
 
 packs : (t : List Slot) → TableFits t → distinct t ≡ true → 1 ≤ length t → length t ≤ 15 → Packs t
@@ -51,6 +51,14 @@ theorems =
       found-is = found-is;
       sets-lowest = sets-lowest;
       lists-exactly = lists-exactly;
+      bytes-hold = bytes-hold;
+      tables-hold = tables-hold;
+      requests-hold = requests-hold;
+      acts-hold = acts-hold;
       cases-hold = cases-hold;
+      writer-hold = writer-hold;
+      replies-hold = replies-hold;
+      listings-hold = listings-hold;
+      histories-hold = histories-hold;
       demand-3 = demand-3;
     }

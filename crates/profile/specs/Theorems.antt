@@ -14,7 +14,15 @@ use Rattle.profile.specs.Frame.{Kind, kindOf, kindNumber, statusIn}
 use Rattle.profile.specs.Request.{Request, setup, list, asks, readRequest, writeRequest, withVerdict, RequestFits}
 use Rattle.profile.specs.Agent.{Given, Answer, done, find, act, lowestEmpty, replyFrame, Call, Outcome, replied, agent}
 use Rattle.profile.specs.Device.{Fields, requestOf, fieldsIn, Arrays, Written, write, readReply, sent}
+use Rattle.profile.specs.BytesCases
+use Rattle.profile.specs.TableCases
+use Rattle.profile.specs.RequestCases
+use Rattle.profile.specs.ActCases
 use Rattle.profile.specs.Cases.{cases, holds}
+use Rattle.profile.specs.WriterCases
+use Rattle.profile.specs.ReplyCases
+use Rattle.profile.specs.ListingCases
+use Rattle.profile.specs.HistoryCases
 use Rattle.profile.specs.Demand3.{Demand3}
 use Rattle.profile.specs.Laws.{Apart, Refuses, FoundIs, SetsLowest, ListsExactly}
 
@@ -82,7 +90,15 @@ pub record Theorems : Type 0 where
   pub found-is : (h : Bytes) (t : List Slot) → FoundIs h t (find h t)
   pub sets-lowest : (t : List Slot) (h : Bytes) (n : ℕ) (g : Given) (u : List Slot) → act (lowestEmpty t) t (setup h n) ≡ done g u → SetsLowest t h n u
   pub lists-exactly : (place : ℕ) (t : List Slot) (limit : ℕ) (q : List Bytes) → (g : Given) × (act place t (list limit q) ≡ done g t) × ListsExactly limit q t g
-  -- "Examples"
-  pub cases-hold : T (all holds cases)
+  -- "Examples", and every rule in worked cases, table by table
+  pub bytes-hold : BytesCases.Hold
+  pub tables-hold : TableCases.Hold
+  pub requests-hold : RequestCases.Hold
+  pub acts-hold : ActCases.Hold
+  pub cases-hold : holds cases
+  pub writer-hold : WriterCases.Hold
+  pub replies-hold : ReplyCases.Hold
+  pub listings-hold : ListingCases.Hold
+  pub histories-hold : HistoryCases.Hold
   -- demand 3, of every table of 1 to 15 slots and every sequence of calls
   pub demand-3 : (n : ℕ) → 1 ≤ n → n ≤ 15 → (cs : List Call) → Demand3 n cs

@@ -1,0 +1,218 @@
+-- Document 01, the rules kind by kind, in worked cases on slots told without their bytes: each test, and each pair of tests of which both apply.
+use Prim.Native.Nat.{ℕ}
+use mathlib.Core.Path.{_≡_}
+use mathlib.Core.List.{List, [], _∷_, _++_, map}
+use mathlib.Core.Bool.{Bool, true, false}
+use lib.ListN.{take, replicate}
+use Rattle.profile.specs.Bytes.{Bytes, joined, pieces}
+use Rattle.profile.specs.Slot.{Right, recount, reserved, enabled, disabled, Slot, empty, taken}
+use Rattle.profile.specs.Frame.{Refusal, parameter, notFound, duplicate, unexpected, noSpace, twoRecords}
+use Rattle.profile.specs.Request.{Request, setup, install, retrieve, query, enable, remove, cancel, list, info}
+use Rattle.profile.specs.Agent.{Given, nothing, theRight, theKey, handles, counted, Answer, deny, done, act, lowestEmpty, firstOf}
+use Rattle.profile.specs.CaseBytes.{hex, H1, H2, H3, H4, H1-last, K, L, A, B, A-last, A-first, eight, five}
+use Rattle.profile.specs.CaseTables.{fifteenHandles}
+
+-- the slots before, a request, and the answer: a refusal, or what is given and the slots afterwards
+pub record Case : Type 0 where
+  pub slots : List Slot
+  pub request : Request
+  pub answer : Answer
+
+abbrev pub denies : List Slot → Request → Refusal → Case
+denies t q r = record { slots = t; request = q; answer = deny r }
+
+abbrev pub gives : List Slot → Request → Given → List Slot → Case
+gives t q g u = record { slots = t; request = q; answer = done g u }
+
+-- ---- rights: with no hash, with A and B, with B alone; six bytes of payload
+abbrev pub plain : Right
+plain = record { key = K; count = 7; hashes = []; payload = five }
+
+abbrev pub both : Right
+both = record { key = L; count = 258; hashes = A ∷ B ∷ []; payload = hex "BC" }
+
+abbrev pub onlyB : Right
+onlyB = record { key = L; count = 258; hashes = B ∷ []; payload = hex "BC" }
+
+abbrev pub six : Right
+six = record { key = K; count = 7; hashes = []; payload = hex "A1 A2 A3 A4 A5 A6" }
+
+-- ---- slots: H1 reserved, H2 enabled, H3 disabled; an empty one behind them; and H1 in more than one slot
+abbrev pub full : List Slot
+full = taken H1 (reserved 5) ∷ taken H2 (enabled both) ∷ taken H3 (disabled plain) ∷ []
+
+abbrev pub spare : List Slot
+spare = taken H1 (reserved 5) ∷ taken H2 (enabled both) ∷ taken H3 (disabled plain) ∷ empty ∷ []
+
+abbrev pub twice : List Slot
+twice = taken H1 (reserved 5) ∷ empty ∷ taken H1 (enabled plain) ∷ taken H2 (enabled both) ∷ []
+
+abbrev pub thrice : List Slot
+thrice = taken H1 (disabled plain) ∷ taken H1 (enabled both) ∷ taken H1 (enabled plain) ∷ []
+
+-- ---- kind 1
+unfoldable pub setups : List Case
+setups =
+    -- "length 0, 2": before a handle in use, and a full table
+    denies spare (setup H1 0) parameter
+    ∷ denies full (setup H4 0) parameter
+    -- "handle in any non-empty slot, 5": before a length over 4,096, and a full table
+    ∷ denies spare (setup H1 5) duplicate
+    ∷ denies spare (setup H2 5) duplicate
+    ∷ denies spare (setup H3 5) duplicate
+    ∷ denies spare (setup H3 4097) duplicate
+    ∷ denies full (setup H3 5) duplicate
+    -- "length over 4,096 or no empty slot, 7"
+    ∷ denies spare (setup H4 4097) noSpace
+    ∷ denies spare (setup H4 65535) noSpace
+    ∷ denies full (setup H4 5) noSpace
+    ∷ denies full (setup H4 4097) noSpace
+    -- "The lowest empty slot becomes reserved."
+    ∷ gives spare (setup H4 4096) nothing (full ++ (taken H4 (reserved 4096) ∷ []))
+    ∷ gives spare (setup H1-last 1) nothing (full ++ (taken H1-last (reserved 1) ∷ []))
+    ∷ gives (empty ∷ empty ∷ full) (setup H4 1) nothing (taken H4 (reserved 1) ∷ empty ∷ full)
+    ∷ gives (taken H2 (enabled both) ∷ empty ∷ taken H3 (disabled plain) ∷ empty ∷ []) (setup H4 1) nothing (taken H2 (enabled both) ∷ taken H4 (reserved 1) ∷ taken H3 (disabled plain) ∷ empty ∷ [])
+    ∷ []
+
+-- ---- kind 2
+unfoldable pub installations : List Case
+installations =
+    -- status 8 "just before 4", and before 6 and 7
+    denies twice (install H1 plain) twoRecords
+    ∷ denies thrice (install H1 plain) twoRecords
+    -- "handle absent, 4; record not reserved, 6; payload longer than reserved, 7"
+    ∷ denies full (install H4 plain) notFound
+    ∷ denies (empty ∷ []) (install H1 plain) notFound
+    ∷ denies full (install H2 plain) unexpected
+    ∷ denies full (install H3 six) unexpected
+    ∷ denies full (install H1 six) noSpace
+    ∷ gives full (install H1 plain) nothing (taken H1 (enabled plain) ∷ taken H2 (enabled both) ∷ taken H3 (disabled plain) ∷ [])
+    ∷ gives (empty ∷ full) (install H1 both) nothing (empty ∷ taken H1 (enabled both) ∷ taken H2 (enabled both) ∷ taken H3 (disabled plain) ∷ [])
+    ∷ []
+
+-- ---- kinds 3 and 4
+unfoldable pub lendings : List Case
+lendings =
+    denies twice (retrieve H1 H4) twoRecords
+    ∷ denies thrice (query H1 H1) twoRecords
+    -- "absent, 4; not enabled, 6": before a new handle in use
+    ∷ denies full (retrieve H4 H1) notFound
+    ∷ denies full (query H4 H1) notFound
+    ∷ denies full (retrieve H1 H2) unexpected
+    ∷ denies full (query H1 H2) unexpected
+    ∷ denies full (retrieve H3 H2) unexpected
+    ∷ denies full (query H3 H2) unexpected
+    -- "new handle in any non-empty slot, its own included, 5"
+    ∷ denies full (retrieve H2 H1) duplicate
+    ∷ denies full (query H2 H1) duplicate
+    ∷ denies full (retrieve H2 H2) duplicate
+    ∷ denies full (query H2 H2) duplicate
+    ∷ denies full (retrieve H2 H3) duplicate
+    ∷ denies full (query H2 H3) duplicate
+    ∷ denies twice (query H2 H1) duplicate
+    -- "The handle is overwritten, the record disabled, nothing else."
+    ∷ gives full (retrieve H2 H4) (theRight both) (taken H1 (reserved 5) ∷ taken H4 (disabled both) ∷ taken H3 (disabled plain) ∷ [])
+    ∷ gives full (query H2 H4) (theKey L) (taken H1 (reserved 5) ∷ taken H4 (disabled both) ∷ taken H3 (disabled plain) ∷ [])
+    ∷ []
+
+-- ---- kinds 5, 6, 7 and 9
+unfoldable pub others : List Case
+others =
+    -- 5
+    denies twice (enable H1 3) twoRecords
+    ∷ denies full (enable H4 3) notFound
+    ∷ denies full (enable H1 3) unexpected
+    ∷ gives full (enable H2 3) nothing full
+    ∷ gives full (enable H3 3) nothing (taken H1 (reserved 5) ∷ taken H2 (enabled both) ∷ taken H3 (enabled (recount 3 plain)) ∷ [])
+    ∷ gives full (enable H3 0) nothing (taken H1 (reserved 5) ∷ taken H2 (enabled both) ∷ taken H3 (enabled (record { key = K; count = 0; hashes = []; payload = five })) ∷ [])
+    ∷ gives (taken H2 (disabled both) ∷ []) (enable H2 65535) nothing (taken H2 (enabled (record { key = L; count = 65535; hashes = A ∷ B ∷ []; payload = hex "BC" })) ∷ [])
+    -- 6
+    ∷ denies twice (remove H1) twoRecords
+    ∷ denies full (remove H4) notFound
+    ∷ denies full (remove H1) unexpected
+    ∷ gives full (remove H2) nothing (taken H1 (reserved 5) ∷ empty ∷ taken H3 (disabled plain) ∷ [])
+    ∷ gives full (remove H3) nothing (taken H1 (reserved 5) ∷ taken H2 (enabled both) ∷ empty ∷ [])
+    -- 7
+    ∷ denies twice (cancel H1) twoRecords
+    ∷ denies full (cancel H4) notFound
+    ∷ denies full (cancel H2) unexpected
+    ∷ denies full (cancel H3) unexpected
+    ∷ gives full (cancel H1) nothing (empty ∷ taken H2 (enabled both) ∷ taken H3 (disabled plain) ∷ [])
+    -- 9
+    ∷ denies twice (info H1) twoRecords
+    ∷ denies full (info H4) notFound
+    ∷ denies full (info H1) unexpected
+    ∷ denies full (info H3) unexpected
+    ∷ gives full (info H2) (counted 258 (hex "BC")) full
+    ∷ gives twice (info H2) (counted 258 (hex "BC")) twice
+    ∷ []
+
+-- ---- kind 8: empty, H1 with no hash, reserved, H3 with A and B, disabled with A and B, H2 with B
+abbrev pub among : List Slot
+among =
+    empty
+    ∷ taken H1 (enabled plain)
+    ∷ taken H4 (reserved 5)
+    ∷ taken H3 (enabled both)
+    ∷ taken H1-last (disabled both)
+    ∷ taken H2 (enabled onlyB)
+    ∷ []
+
+-- a limit and the hashes asked for; whether there are more, and the handles
+abbrev pub lists : ℕ → List Bytes → Bool → List Bytes → Case
+lists limit q more hs = gives among (list limit q) (handles more hs) among
+
+unfoldable pub listings : List Case
+listings =
+    -- "in slot order and each once, the handles of enabled records that have some hash of the request; with hash count 0, of all enabled records"
+    lists 0 [] false (H1 ∷ H3 ∷ H2 ∷ [])
+    ∷ lists 0 (A ∷ []) false (H3 ∷ [])
+    ∷ lists 0 (B ∷ []) false (H3 ∷ H2 ∷ [])
+    ∷ lists 0 (A ∷ B ∷ []) false (H3 ∷ H2 ∷ [])
+    ∷ lists 0 (B ∷ A ∷ []) false (H3 ∷ H2 ∷ [])
+    ∷ lists 0 (A-last ∷ A-first ∷ A ∷ []) false (H3 ∷ [])
+    ∷ lists 0 (A-last ∷ []) false []
+    ∷ lists 0 (A-first ∷ []) false []
+    ∷ lists 10 (A-first ∷ []) false []
+    ∷ lists 1 (A-last ∷ []) false []
+    ∷ lists 0 (pieces 20 8 eight) false []
+    ∷ gives (taken H1 (enabled (record { key = K; count = 0; hashes = pieces 20 8 eight; payload = five })) ∷ []) (list 0 (A ∷ (0x9C ∷ 0x9D ∷ 0x9E ∷ 0x9F ∷ 0xA0 ∷ 0xA1 ∷ 0xA2 ∷ 0xA3 ∷ 0xA4 ∷ 0xA5 ∷ 0xA6 ∷ 0xA7 ∷ 0xA8 ∷ 0xA9 ∷ 0xAA ∷ 0xAB ∷ 0xAC ∷ 0xAD ∷ 0xAE ∷ 0xAF ∷ []) ∷ [])) (handles false (H1 ∷ [])) (taken H1 (enabled (record { key = K; count = 0; hashes = pieces 20 8 eight; payload = five })) ∷ [])
+    -- "Limit 0 is none; otherwise the first whole handles that fit in limit bytes. More is 1 exactly if a handle was left off."
+    ∷ lists 1 [] true []
+    ∷ lists 9 [] true []
+    ∷ lists 10 [] true (H1 ∷ [])
+    ∷ lists 19 [] true (H1 ∷ [])
+    ∷ lists 20 [] true (H1 ∷ H3 ∷ [])
+    ∷ lists 29 [] true (H1 ∷ H3 ∷ [])
+    ∷ lists 30 [] false (H1 ∷ H3 ∷ H2 ∷ [])
+    ∷ lists 31 [] false (H1 ∷ H3 ∷ H2 ∷ [])
+    ∷ lists 256 [] false (H1 ∷ H3 ∷ H2 ∷ [])
+    ∷ lists 19 (B ∷ []) true (H3 ∷ [])
+    ∷ lists 20 (B ∷ []) false (H3 ∷ H2 ∷ [])
+    ∷ lists 9 (A ∷ []) true []
+    -- nothing at all to list
+    ∷ gives (empty ∷ []) (list 5 []) (handles false []) (empty ∷ [])
+    ∷ []
+
+-- limits with fifteen handles: how many are given, and whether there are more
+abbrev pub limits : List (ℕ × ℕ × Bool)
+limits =
+    (0, 15, false)
+    ∷ (1, 0, true)
+    ∷ (9, 0, true)
+    ∷ (10, 1, true)
+    ∷ (19, 1, true)
+    ∷ (20, 2, true)
+    ∷ (149, 14, true)
+    ∷ (150, 15, false)
+    ∷ (160, 15, false)
+    ∷ (65535, 15, false)
+    ∷ []
+
+-- ---- the whole table, and that the definitions say the same
+unfoldable pub cases : List Case
+cases = joined (setups ∷ installations ∷ lendings ∷ others ∷ listings ∷ [])
+
+pub record Hold : Type 0 where
+  pub acts : map (λ c. act (lowestEmpty (c .slots)) (c .slots) (c .request)) cases ≡ map (λ c. c .answer) cases
+  pub firsts : map (λ l. firstOf (l .0) (pieces 10 15 fifteenHandles)) limits ≡ map (λ l. handles (l .2) (take (l .1) (pieces 10 15 fifteenHandles))) limits

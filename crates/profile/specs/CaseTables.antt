@@ -1,0 +1,85 @@
+-- Document 01, "Examples": the states of the worked cases, written by hand from the layout of a slot.
+use Prim.Native.Nat.{ℕ}
+use mathlib.Core.List.{[], _∷_, _++_, map}
+use lib.ListN.{replicate}
+use Rattle.profile.specs.Bytes.{Bytes, joined}
+use Rattle.profile.specs.CaseBytes.{hex, counting, laid, H1, H2, H3, H4, K, L, A, B, eight, five}
+
+-- ---- one slot
+-- "all zero at first"
+abbrev pub blank : Bytes
+blank = laid []
+
+-- after case 1: reserved, handle H1, length 5
+abbrev pub after1 : Bytes
+after1 = laid ((0, hex "40") ∷ (1, H1) ∷ (29, hex "00 05") ∷ [])
+
+-- after case 7: enabled, with the key K, the count 7, no hash and five bytes of payload
+abbrev pub after7 : Bytes
+after7 = laid ((0, hex "80") ∷ (1, H1) ∷ (11, K) ∷ (27, hex "00 07") ∷ (29, hex "00 05") ∷ (192, five) ∷ [])
+
+-- after case 9: disabled, handle H2
+abbrev pub after9 : Bytes
+after9 = laid ((0, hex "C0") ∷ (1, H2) ∷ (11, K) ∷ (27, hex "00 07") ∷ (29, hex "00 05") ∷ (192, five) ∷ [])
+
+-- after case 11: enabled under H2, with the count 3
+abbrev pub after11 : Bytes
+after11 = laid ((0, hex "80") ∷ (1, H2) ∷ (11, K) ∷ (27, hex "00 03") ∷ (29, hex "00 05") ∷ (192, five) ∷ [])
+
+-- reserved under H1 with the greatest length, 4,096
+abbrev pub roomy : Bytes
+roomy = laid ((0, hex "40") ∷ (1, H1) ∷ (29, hex "10 00") ∷ [])
+
+-- enabled under H1 with 4,096 bytes of payload
+abbrev pub longest : Bytes
+longest = laid ((0, hex "80") ∷ (1, H1) ∷ (11, K) ∷ (27, hex "00 07") ∷ (29, hex "10 00") ∷ (192, replicate 4096 0x5A) ∷ [])
+
+-- enabled under H3 with another key, the count 0x0102, one byte of payload and the hash A
+abbrev pub hashed1 : Bytes
+hashed1 = laid ((0, hex "84") ∷ (1, H3) ∷ (11, L) ∷ (27, hex "01 02") ∷ (29, hex "00 01") ∷ (31, A) ∷ (192, hex "BC") ∷ [])
+
+-- the same with two hashes, A and B
+abbrev pub hashed2 : Bytes
+hashed2 = laid ((0, hex "88") ∷ (1, H3) ∷ (11, L) ∷ (27, hex "01 02") ∷ (29, hex "00 01") ∷ (31, A ++ B) ∷ (192, hex "BC") ∷ [])
+
+-- the same disabled
+abbrev pub lent2 : Bytes
+lent2 = laid ((0, hex "C8") ∷ (1, H3) ∷ (11, L) ∷ (27, hex "01 02") ∷ (29, hex "00 01") ∷ (31, A ++ B) ∷ (192, hex "BC") ∷ [])
+
+-- enabled under H1 with eight hashes
+abbrev pub hashed8 : Bytes
+hashed8 = laid ((0, hex "A0") ∷ (1, H1) ∷ (11, K) ∷ (27, hex "00 07") ∷ (29, hex "00 05") ∷ (31, eight) ∷ (192, five) ∷ [])
+
+-- reserved under ten zeros
+abbrev pub nameless : Bytes
+nameless = laid ((0, hex "40") ∷ (29, hex "00 05") ∷ [])
+
+-- reserved under H3, and under H4
+abbrev pub free3 : Bytes
+free3 = laid ((0, hex "40") ∷ (1, H3) ∷ (29, hex "00 05") ∷ [])
+
+abbrev pub waiting : Bytes
+waiting = laid ((0, hex "40") ∷ (1, H4) ∷ (29, hex "00 05") ∷ [])
+
+-- enabled with a key of zeros and the count 0
+abbrev pub keyless : Bytes
+keyless = laid ((0, hex "80") ∷ (1, H1) ∷ (29, hex "00 05") ∷ (192, five) ∷ [])
+
+-- enabled with the same hash twice
+abbrev pub twins : Bytes
+twins = laid ((0, hex "88") ∷ (1, H1) ∷ (11, K) ∷ (27, hex "00 07") ∷ (29, hex "00 05") ∷ (31, A ++ A) ∷ (192, five) ∷ [])
+
+-- ---- three slots
+-- reserved H1, disabled H2, enabled H3
+abbrev pub mixed : Bytes
+mixed = after1 ++ after9 ++ hashed2
+
+-- ---- fifteen slots, enabled: the handles, the first nine bytes 06 and the last from 01 to 0F, and the table
+abbrev pub numbered : ℕ → Bytes
+numbered i = replicate 9 0x06 ++ (i ∷ [])
+
+abbrev pub fifteenHandles : Bytes
+fifteenHandles = joined (map numbered (counting 0x01 15))
+
+abbrev pub fifteen : Bytes
+fifteen = joined (map (λ i. laid ((0, hex "80") ∷ (1, numbered i) ∷ (29, hex "00 01") ∷ (192, hex "BC") ∷ [])) (counting 0x01 15))

@@ -1,0 +1,133 @@
+-- Document 01, "How strict the contracts are", in worked cases: what the history tells of each exchange, and of a run of calls.
+use Prim.Native.Nat.{ℕ}
+use mathlib.Core.Path.{_≡_}
+use mathlib.Core.List.{List, [], _∷_, _++_, map}
+use mathlib.Core.Option.{none, some}
+use lib.ListN.{replicate}
+use Rattle.profile.specs.Bytes.{Bytes}
+use Rattle.profile.specs.Slot.{Right, Entry, reserved, enabled, disabled, empty, taken}
+use Rattle.profile.specs.Frame.{parameter}
+use Rattle.profile.specs.Request.{Request, setup, install, retrieve, query, enable, remove, cancel, list, info, asks, refused, noFrame}
+use Rattle.profile.specs.Agent.{Call}
+use Rattle.profile.specs.History.{open-setup, forUse, lent, gone, Ledger, blankLedger, rightNumber, Exchange, told, history}
+use Rattle.profile.specs.Run.{exchange, exchanges, blankTable, tableAfterAll, ledgerThen, underSlots, underLedger}
+use Rattle.profile.specs.CaseBytes.{hex, changed, H1, H2, H3, H4, H1-last, K, L, A, five}
+use Rattle.profile.specs.CaseTables.{blank, after11, waiting}
+
+-- a right, the same with the count 3, and another
+abbrev pub plain : Right
+plain = record { key = K; count = 7; hashes = []; payload = five }
+
+abbrev pub counted3 : Right
+counted3 = record { key = K; count = 3; hashes = []; payload = five }
+
+abbrev pub other : Right
+other = record { key = L; count = 258; hashes = A ∷ []; payload = hex "BC" }
+
+abbrev pub other3 : Right
+other3 = record { key = L; count = 3; hashes = A ∷ []; payload = hex "BC" }
+
+-- ---- one exchange after another state: two setups; a right for use under H1, one lent under H2, one gone
+abbrev pub before : Ledger
+before = record { setups = open-setup H3 5 ∷ open-setup H4 9 ∷ []; rights = forUse H1 plain ∷ lent H2 other ∷ gone plain ∷ [] }
+
+pub record Case : Type 0 where
+  pub request : Request
+  pub status : ℕ
+  pub after : Ledger
+
+-- "kind 1 opens a setup of the length asked; .. 7 closes the setup. All else does nothing"
+unfoldable pub tellings : List Case
+tellings =
+    record { request = setup H1-last 6; status = 0; after = record { setups = open-setup H1-last 6 ∷ open-setup H3 5 ∷ open-setup H4 9 ∷ []; rights = forUse H1 plain ∷ lent H2 other ∷ gone plain ∷ [] } }
+    ∷ record { request = install H3 plain; status = 0; after = record { setups = open-setup H4 9 ∷ []; rights = forUse H1 plain ∷ lent H2 other ∷ gone plain ∷ forUse H3 plain ∷ [] } }
+    ∷ record { request = install H4 other; status = 0; after = record { setups = open-setup H3 5 ∷ []; rights = forUse H1 plain ∷ lent H2 other ∷ gone plain ∷ forUse H4 other ∷ [] } }
+    ∷ record { request = retrieve H1 H1-last; status = 0; after = record { setups = open-setup H3 5 ∷ open-setup H4 9 ∷ []; rights = lent H1-last plain ∷ lent H2 other ∷ gone plain ∷ [] } }
+    ∷ record { request = query H1 H1-last; status = 0; after = record { setups = open-setup H3 5 ∷ open-setup H4 9 ∷ []; rights = lent H1-last plain ∷ lent H2 other ∷ gone plain ∷ [] } }
+    ∷ record { request = query H1-last H1; status = 0; after = before }
+    -- "the right under the handle", whichever it is
+    ∷ record { request = retrieve H2 H1-last; status = 0; after = record { setups = open-setup H3 5 ∷ open-setup H4 9 ∷ []; rights = forUse H1 plain ∷ lent H1-last other ∷ gone plain ∷ [] } }
+    ∷ record { request = enable H2 3; status = 0; after = record { setups = open-setup H3 5 ∷ open-setup H4 9 ∷ []; rights = forUse H1 plain ∷ forUse H2 other3 ∷ gone plain ∷ [] } }
+    ∷ record { request = enable H1 3; status = 0; after = before }
+    ∷ record { request = enable H3 3; status = 0; after = before }
+    ∷ record { request = remove H1; status = 0; after = record { setups = open-setup H3 5 ∷ open-setup H4 9 ∷ []; rights = gone plain ∷ lent H2 other ∷ gone plain ∷ [] } }
+    ∷ record { request = remove H2; status = 0; after = record { setups = open-setup H3 5 ∷ open-setup H4 9 ∷ []; rights = forUse H1 plain ∷ gone other ∷ gone plain ∷ [] } }
+    ∷ record { request = remove H3; status = 0; after = before }
+    ∷ record { request = cancel H3; status = 0; after = record { setups = open-setup H4 9 ∷ []; rights = forUse H1 plain ∷ lent H2 other ∷ gone plain ∷ [] } }
+    ∷ record { request = cancel H4; status = 0; after = record { setups = open-setup H3 5 ∷ []; rights = forUse H1 plain ∷ lent H2 other ∷ gone plain ∷ [] } }
+    ∷ record { request = cancel H1; status = 0; after = before }
+    ∷ record { request = list 0 (A ∷ []); status = 0; after = before }
+    ∷ record { request = info H1; status = 0; after = before }
+    -- "by status 0 only"
+    ∷ record { request = setup H1-last 6; status = 7; after = before }
+    ∷ record { request = install H3 plain; status = 1; after = before }
+    ∷ record { request = retrieve H1 H2; status = 5; after = before }
+    ∷ record { request = query H2 H1-last; status = 6; after = before }
+    ∷ record { request = enable H2 3; status = 4; after = before }
+    ∷ record { request = remove H1; status = 8; after = before }
+    ∷ record { request = cancel H3; status = 255; after = before }
+    ∷ []
+
+abbrev pub telling : Case → Ledger
+telling c = told before (record { request = c .request; status = c .status })
+
+-- ---- a run of calls on two blank slots: two installations with equal bytes, a lending and its return, a removal, a setup that stays
+abbrev pub frames : List Bytes
+frames =
+    (hex "21 80 00 0C" ++ H1 ++ hex "00 05")
+    ∷ (hex "22 80 00 22" ++ H1 ++ K ++ hex "00 07 00" ++ five)
+    ∷ (hex "24 80 00 14" ++ H1 ++ H2)
+    ∷ (hex "21 80 00 0C" ++ H1 ++ hex "00 05")
+    ∷ (hex "22 80 00 22" ++ H1 ++ K ++ hex "00 07 00" ++ five)
+    ∷ (hex "24 80 00 14" ++ H2 ++ H3)
+    ∷ hex "26 80 00"
+    ∷ (hex "25 80 00 0C" ++ H2 ++ hex "00 03")
+    ∷ (hex "26 80 00 0A" ++ H1)
+    ∷ hex "2A 80 00 00"
+    ∷ (hex "21 80 00 0C" ++ H4 ++ hex "00 05")
+    ∷ []
+
+abbrev pub asking : Request → ℕ → Exchange
+asking q s = record { request = q; status = s }
+
+-- the frames that are no request have no exchange
+abbrev pub run : List Exchange
+run =
+    asking (setup H1 5) 0
+    ∷ asking (install H1 plain) 0
+    ∷ asking (query H1 H2) 0
+    ∷ asking (setup H1 5) 0
+    ∷ asking (install H1 plain) 0
+    ∷ asking (query H2 H3) 6
+    ∷ asking (enable H2 3) 0
+    ∷ asking (remove H1) 0
+    ∷ asking (setup H4 5) 0
+    ∷ []
+
+-- "two installations with equal bytes are two rights": one is for use again, one is gone
+abbrev pub ledger : Ledger
+ledger = record { setups = open-setup H4 5 ∷ []; rights = forUse H2 counted3 ∷ gone plain ∷ [] }
+
+abbrev pub calls : ℕ → List Bytes → List Call
+calls room fs = map (λ f. record { request = f; buffer = replicate room 0xAA }) fs
+
+pub record Hold : Type 0 where
+  pub each : map telling tellings ≡ map (λ c. c .after) tellings
+  -- the run: its exchanges, the table, the ledger
+  pub ran : exchanges (blankTable 2) (calls 4279 frames) ≡ run
+  pub left : tableAfterAll 2 (calls 4279 frames) ≡ after11 ++ waiting
+  pub tells : history blankLedger run ≡ ledger
+  pub then-told : ledgerThen 1 (calls 4279 ((hex "21 80 00 0C" ++ H1 ++ hex "00 05") ∷ [])) ≡ record { setups = open-setup H1 5 ∷ []; rights = [] }
+  pub blank-at-first : blankTable 2 ≡ blank ++ blank
+  -- a call that gave a number, and a frame that is no request, have no exchange
+  pub numbered : exchanges (blankTable 1) (calls 4278 ((hex "21 80 00 0C" ++ H1 ++ hex "00 05") ∷ [])) ≡ []
+  pub with-number : exchange (asks (remove H1)) (record { number = 104; reply = hex "26 00 00 00"; table = [] }) ≡ []
+  pub with-status : exchange (asks (remove H1)) (record { number = 0; reply = hex "26 04 00 00"; table = [] }) ≡ asking (remove H1) 4 ∷ []
+  pub not-asked : exchange (refused parameter) (record { number = 0; reply = hex "26 00 00 00"; table = [] }) ≡ []
+  pub no-frame : exchange noFrame (record { number = 0; reply = hex "26 00 00 00"; table = [] }) ≡ []
+  -- the rights by their numbers
+  pub by-number : map (λ i. rightNumber i ledger) (0 ∷ 1 ∷ 2 ∷ []) ≡ some (forUse H2 counted3) ∷ some (gone plain) ∷ none ∷ []
+  -- what stands under a handle, by the ledger and by the slots
+  pub under-ledger : map (λ h. underLedger h before) (H1 ∷ H2 ∷ H3 ∷ H4 ∷ H1-last ∷ []) ≡ (enabled plain ∷ []) ∷ (disabled other ∷ []) ∷ (reserved 5 ∷ []) ∷ (reserved 9 ∷ []) ∷ [] ∷ []
+  pub under-slots : map (λ h. underSlots h (taken H1 (enabled plain) ∷ empty ∷ taken H2 (disabled other) ∷ taken H3 (reserved 5) ∷ taken H1 (reserved 9) ∷ [])) (H1 ∷ H2 ∷ H3 ∷ H1-last ∷ [])
+      ≡ (enabled plain ∷ reserved 9 ∷ []) ∷ (disabled other ∷ []) ∷ (reserved 5 ∷ []) ∷ [] ∷ []

@@ -1,0 +1,201 @@
+-- Document 01, "Device end and listing", in worked cases: replies, and what the reply reader says of them.
+use Prim.Native.Nat.{ℕ}
+use Prim.Native.String.{String}
+use mathlib.Core.Path.{_≡_}
+use mathlib.Core.List.{List, [], _∷_, _++_, map}
+use mathlib.Core.Bool.{true, false}
+use lib.ListN.{take, replicate}
+use Rattle.profile.specs.Bytes.{Bytes, joined}
+use Rattle.profile.specs.Frame.{integrity, parameter, unsupported, notFound, duplicate, unexpected, noSpace, twoRecords}
+use Rattle.profile.specs.Agent.{Given, nothing, theRight, theKey, handles, counted, deny, done, Answer, replyFrame}
+use Rattle.profile.specs.Device.{Reply, malformed, failed, gave, readReply, sent}
+use Rattle.profile.specs.CaseBytes.{hex, counting, sized}
+
+-- a reply frame, and what it is read as
+abbrev pub Case : Type 0
+Case = Bytes × Reply
+
+-- 203
+abbrev pub bad : Bytes → Case
+bad f = (f, malformed)
+
+-- a success of a kind that gives nothing
+abbrev pub plain : ℕ → Bytes → Case
+plain kind f = (f, gave kind nothing)
+
+abbrev pub key : Bytes
+key = counting 0x21 16
+
+abbrev pub p : Bytes
+p = counting 0x40 20
+
+abbrev pub q : Bytes
+q = counting 0x60 20
+
+abbrev pub h : Bytes
+h = counting 0x01 10
+
+abbrev pub n : Bytes
+n = counting 0x11 10
+
+abbrev pub eight : Bytes
+eight = counting 0x10 160
+
+abbrev pub eightHashes : List Bytes
+eightHashes =
+    counting 0x10 20
+    ∷ counting 0x24 20
+    ∷ counting 0x38 20
+    ∷ counting 0x4C 20
+    ∷ counting 0x60 20
+    ∷ counting 0x74 20
+    ∷ counting 0x88 20
+    ∷ counting 0x9C 20
+    ∷ []
+
+-- fifteen handles, one by one
+abbrev pub fifteen : List Bytes
+fifteen = map (λ i. i ∷ replicate 9 0x07) (counting 0x01 15)
+
+-- ---- "refuses with 203 unless length, version and zero bits are right, status is 0 to 8"
+unfoldable pub heads : List Case
+heads =
+    -- length
+    bad []
+    ∷ bad (hex "21")
+    ∷ bad (hex "21 00 00")
+    ∷ bad (hex "21 00 00 01")
+    ∷ bad (hex "21 00 00 00 00")
+    ∷ bad (hex "21 05 01 00")
+    ∷ bad (hex "24 00 00 0F" ++ key)
+    ∷ bad (hex "24 00 10 00" ++ key)
+    -- version
+    ∷ bad (hex "01 00 00 00")
+    ∷ bad (hex "41 00 00 00")
+    ∷ bad (hex "61 05 00 00")
+    ∷ bad (hex "A1 00 00 00")
+    -- status
+    ∷ plain 1 (hex "21 00 00 00")
+    ∷ (hex "21 01 00 00", failed 1 1)
+    ∷ (hex "22 02 00 00", failed 2 2)
+    ∷ (hex "23 03 00 00", failed 3 3)
+    ∷ (hex "24 04 00 00", failed 4 4)
+    ∷ (hex "25 05 00 00", failed 5 5)
+    ∷ (hex "26 06 00 00", failed 6 6)
+    ∷ (hex "27 07 00 00", failed 7 7)
+    ∷ (hex "28 08 00 00", failed 8 8)
+    ∷ (hex "29 01 00 00", failed 9 1)
+    ∷ bad (hex "21 09 00 00")
+    ∷ bad (hex "21 10 00 00")
+    ∷ bad (hex "21 FF 00 00")
+    -- "the body is empty for a status other than 0"
+    ∷ bad (hex "21 05 00 01 00")
+    ∷ bad (hex "24 04 00 10" ++ key)
+    ∷ bad (hex "28 08 00 01 00")
+    -- "no success for kinds outside 1 to 9"; their refusals are read
+    ∷ bad (hex "20 00 00 00")
+    ∷ bad (hex "2A 00 00 00")
+    ∷ bad (hex "3F 00 00 00")
+    ∷ (hex "20 03 00 00", failed 0 3)
+    ∷ (hex "2A 03 00 00", failed 10 3)
+    ∷ (hex "3F 02 00 00", failed 31 2)
+    ∷ []
+
+-- ---- "of its kind's shape for 0"
+unfoldable pub shapes : List Case
+shapes =
+    -- 1, 2, 5, 6, 7: no body
+    plain 2 (hex "22 00 00 00")
+    ∷ plain 5 (hex "25 00 00 00")
+    ∷ plain 6 (hex "26 00 00 00")
+    ∷ plain 7 (hex "27 00 00 00")
+    ∷ bad (hex "21 00 00 01 00")
+    ∷ bad (hex "22 00 00 01 00")
+    ∷ bad (hex "25 00 00 01 00")
+    ∷ bad (hex "26 00 00 01 00")
+    ∷ bad (hex "27 00 00 01 00")
+    -- 4: the key
+    ∷ (hex "24 00 00 10" ++ key, gave 4 (theKey key))
+    ∷ bad (hex "24 00 00 0F" ++ take 15 key)
+    ∷ bad (hex "24 00 00 11" ++ key ++ hex "00")
+    ∷ bad (hex "24 00 00 00")
+    -- 9: count, "payload 1 to 4,096"
+    ∷ (hex "29 00 00 03 31 32 51", gave 9 (counted 0x3132 (hex "51")))
+    ∷ (hex "29 00 00 04 00 07 51 52", gave 9 (counted 7 (hex "51 52")))
+    ∷ (sized "29 00" (hex "31 32" ++ replicate 4096 0x5A), gave 9 (counted 0x3132 (replicate 4096 0x5A)))
+    ∷ bad (sized "29 00" (hex "31 32" ++ replicate 4097 0x5A))
+    ∷ bad (hex "29 00 00 02 31 32")
+    ∷ bad (hex "29 00 00 01 31")
+    ∷ bad (hex "29 00 00 00")
+    -- 8: "zero bits 0, 0 to 15 whole handles"
+    ∷ (hex "28 00 00 01 00", gave 8 (handles false []))
+    ∷ (hex "28 00 00 01 80", gave 8 (handles true []))
+    ∷ (hex "28 00 00 0B 00" ++ h, gave 8 (handles false (h ∷ [])))
+    ∷ (hex "28 00 00 15 80" ++ h ++ n, gave 8 (handles true (h ∷ n ∷ [])))
+    ∷ (hex "28 00 00 97 00" ++ joined fifteen, gave 8 (handles false fifteen))
+    ∷ bad (hex "28 00 00 A1 00" ++ joined fifteen ++ h)
+    ∷ bad (hex "28 00 00 00")
+    ∷ bad (hex "28 00 00 01 01")
+    ∷ bad (hex "28 00 00 01 40")
+    ∷ bad (hex "28 00 00 0B 81" ++ h)
+    ∷ bad (hex "28 00 00 0A 00" ++ take 9 h)
+    ∷ bad (hex "28 00 00 0C 00" ++ h ++ hex "00")
+    ∷ bad (hex "28 00 00 02 00 01")
+    ∷ []
+
+-- 3: "zero bits 0, at most 8 hashes, payload 1 to 4,096"; key, count and hash byte first
+abbrev pub right : String → Bytes → Bytes
+right middle rest = sized "23 00" (key ++ hex middle ++ rest)
+
+abbrev pub gives-right : List Bytes → Bytes → Reply
+gives-right hs payload = gave 3 (theRight (record { key = key; count = 0x3132; hashes = hs; payload = payload }))
+
+unfoldable pub rights : List Case
+rights =
+    (hex "23 00 00 14" ++ key ++ hex "31 32 00 51", gives-right [] (hex "51"))
+    ∷ (hex "23 00 00 29" ++ key ++ hex "31 32 10" ++ p ++ hex "51 52", gives-right (p ∷ []) (hex "51 52"))
+    ∷ (right "31 32 20" (p ++ q ++ hex "51"), gives-right (p ∷ q ∷ []) (hex "51"))
+    ∷ (right "31 32 80" (eight ++ hex "51"), gives-right eightHashes (hex "51"))
+    ∷ bad (right "31 32 90" (eight ++ p ++ hex "51"))
+    ∷ bad (right "31 32 01" (hex "51"))
+    ∷ bad (right "31 32 08" (hex "51"))
+    ∷ bad (right "31 32 14" (p ++ hex "51"))
+    ∷ bad (right "31 32 00" [])
+    ∷ bad (right "31 32 10" p)
+    ∷ bad (right "31 32 10" (take 19 p))
+    ∷ bad (right "31 32 80" eight)
+    ∷ (right "31 32 00" (replicate 4096 0x5A), gives-right [] (replicate 4096 0x5A))
+    ∷ bad (right "31 32 00" (replicate 4097 0x5A))
+    ∷ (right "31 32 80" (eight ++ replicate 4096 0x5A), gives-right eightHashes (replicate 4096 0x5A))
+    ∷ bad (right "31 32 80" (eight ++ replicate 4097 0x5A))
+    ∷ bad (hex "23 00 00 12" ++ key ++ hex "31 32")
+    ∷ bad (hex "23 00 00 00")
+    ∷ []
+
+-- ---- answers: their frames, and what the reader has of them
+unfoldable pub answers : List (ℕ × Answer × Bytes)
+answers =
+    (1, deny integrity, hex "21 01 00 00")
+    ∷ (2, deny parameter, hex "22 02 00 00")
+    ∷ (10, deny unsupported, hex "2A 03 00 00")
+    ∷ (4, deny notFound, hex "24 04 00 00")
+    ∷ (3, deny duplicate, hex "23 05 00 00")
+    ∷ (5, deny unexpected, hex "25 06 00 00")
+    ∷ (1, deny noSpace, hex "21 07 00 00")
+    ∷ (6, deny twoRecords, hex "26 08 00 00")
+    ∷ (7, done nothing [], hex "27 00 00 00")
+    ∷ (3, done (theRight (record { key = key; count = 0x3132; hashes = p ∷ q ∷ []; payload = hex "51 52" })) [], hex "23 00 00 3D" ++ key ++ hex "31 32 20" ++ p ++ q ++ hex "51 52")
+    ∷ (4, done (theKey key) [], hex "24 00 00 10" ++ key)
+    ∷ (8, done (handles true (h ∷ n ∷ [])) [], hex "28 00 00 15 80" ++ h ++ n)
+    ∷ (8, done (handles false (h ∷ [])) [], hex "28 00 00 0B 00" ++ h)
+    ∷ (9, done (counted 0x3132 (hex "51 52")) [], hex "29 00 00 04 31 32 51 52")
+    ∷ []
+
+-- ---- the whole table: it is what the reader says; and answers are sent as these frames, and read as what was sent
+unfoldable pub cases : List Case
+cases = heads ++ shapes ++ rights
+
+pub record Hold : Type 0 where
+  pub read : map (λ c. readReply (c .0)) cases ≡ map (λ c. c .1) cases
+  pub send : map (λ a. replyFrame (a .0) (a .1)) answers ≡ map (λ a. a .2) answers
+  pub back : map (λ a. readReply (a .2)) answers ≡ map (λ a. sent (a .0) (a .1)) answers

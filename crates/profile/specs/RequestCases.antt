@@ -1,0 +1,234 @@
+-- Document 01, "Frames" and "First, for all kinds", in worked cases: frames, and what they are read as.
+use Prim.Native.String.{String}
+use mathlib.Core.Path.{_≡_}
+use mathlib.Core.List.{List, [], _∷_, _++_, map}
+use lib.ListN.{take, drop, replicate}
+use Rattle.profile.specs.Bytes.{Bytes, joined}
+use Rattle.profile.specs.Frame.{Refusal, integrity, parameter, unsupported}
+use Rattle.profile.specs.Request.{Request, setup, install, retrieve, query, enable, remove, cancel, list, info, Read, asks, refused, noFrame, readRequest, writeRequest}
+use Rattle.profile.specs.CaseBytes.{hex, counting, sized}
+
+-- a frame, and what it is read as
+abbrev pub Case : Type 0
+Case = Bytes × Read
+
+abbrev pub reads : Bytes → Request → Case
+reads f q = (f, asks q)
+
+abbrev pub refuses : Bytes → Refusal → Case
+refuses f r = (f, refused r)
+
+-- fields of different bytes: a handle, a new one, a key, two hashes
+abbrev pub h : Bytes
+h = counting 0x01 10
+
+abbrev pub n : Bytes
+n = counting 0x11 10
+
+abbrev pub key : Bytes
+key = counting 0x21 16
+
+abbrev pub p : Bytes
+p = counting 0x40 20
+
+abbrev pub q : Bytes
+q = counting 0x60 20
+
+-- eight hashes, as bytes and one by one
+abbrev pub eight : Bytes
+eight = counting 0x10 160
+
+abbrev pub eightHashes : List Bytes
+eightHashes =
+    counting 0x10 20
+    ∷ counting 0x24 20
+    ∷ counting 0x38 20
+    ∷ counting 0x4C 20
+    ∷ counting 0x60 20
+    ∷ counting 0x74 20
+    ∷ counting 0x88 20
+    ∷ counting 0x9C 20
+    ∷ []
+
+-- kind 2: first two bytes; count, hash count and zero bits; hashes and payload
+abbrev pub right : String → String → Bytes → Bytes
+right head middle rest = sized head (h ++ key ++ hex middle ++ rest)
+
+-- ---- "A frame is either a request with its fields": the fields of each kind
+unfoldable pub requests : List Case
+requests =
+    reads (hex "21 80 00 0C" ++ h ++ hex "31 32") (setup h 0x3132)
+    ∷ reads (hex "22 80 00 1E" ++ h ++ key ++ hex "31 32 00 51") (install h (record { key = key; count = 0x3132; hashes = []; payload = hex "51" }))
+    ∷ reads (hex "22 80 00 33" ++ h ++ key ++ hex "31 32 10" ++ p ++ hex "51 52") (install h (record { key = key; count = 0x3132; hashes = p ∷ []; payload = hex "51 52" }))
+    ∷ reads (hex "22 80 00 47" ++ h ++ key ++ hex "00 00 20" ++ p ++ q ++ hex "00 52") (install h (record { key = key; count = 0; hashes = p ∷ q ∷ []; payload = hex "00 52" }))
+    ∷ reads (hex "23 80 00 14" ++ h ++ n) (retrieve h n)
+    ∷ reads (hex "24 80 00 14" ++ h ++ n) (query h n)
+    ∷ reads (hex "25 80 00 0C" ++ h ++ hex "31 32") (enable h 0x3132)
+    ∷ reads (hex "26 80 00 0A" ++ h) (remove h)
+    ∷ reads (hex "27 80 00 0A" ++ h) (cancel h)
+    ∷ reads (hex "28 80 00 03 31 32 00") (list 0x3132 [])
+    ∷ reads (hex "28 80 00 17 31 32 01" ++ p) (list 0x3132 (p ∷ []))
+    ∷ reads (hex "28 80 00 2B 00 00 02" ++ p ++ q) (list 0 (p ∷ q ∷ []))
+    ∷ reads (hex "29 80 00 0A" ++ h) (info h)
+    -- a setup of length 0 is refused by the agent, and not here; and one of the greatest length
+    ∷ reads (hex "21 80 00 0C" ++ h ++ hex "00 00") (setup h 0)
+    ∷ reads (hex "21 80 00 0C" ++ h ++ hex "FF FF") (setup h 65535)
+    ∷ []
+
+-- ---- "104 frame under 4 bytes, or its length not 4 plus its body length", before all else
+unfoldable pub noFrames : List Case
+noFrames =
+    ([], noFrame)
+    ∷ (hex "21", noFrame)
+    ∷ (hex "41 81", noFrame)
+    ∷ (hex "2A 80 00", noFrame)
+    ∷ (hex "26 80 00 0A" ++ h ++ hex "00", noFrame)
+    ∷ (hex "26 80 00 0A" ++ take 9 h, noFrame)
+    ∷ (hex "46 81 00 0B" ++ h, noFrame)
+    ∷ (hex "2A 00 00 01", noFrame)
+    ∷ (hex "2A 80 00 00 00", noFrame)
+    ∷ (hex "2A 80 01 00", noFrame)
+    ∷ (hex "2A 80 00 01" ++ replicate 256 0x00, noFrame)
+    ∷ refuses (hex "2A 80 01 00" ++ replicate 256 0x00) unsupported
+    ∷ refuses (hex "2A 80 00 00") unsupported
+    ∷ []
+
+-- ---- "version not 1 or one of the 7 zero bits set, 2": each version, each bit; before kind, length, verdict and fields
+unfoldable pub heads : List Case
+heads =
+    refuses (hex "06 80 00 0A" ++ h) parameter
+    ∷ refuses (hex "46 80 00 0A" ++ h) parameter
+    ∷ refuses (hex "66 80 00 0A" ++ h) parameter
+    ∷ refuses (hex "86 80 00 0A" ++ h) parameter
+    ∷ refuses (hex "A6 80 00 0A" ++ h) parameter
+    ∷ refuses (hex "C6 80 00 0A" ++ h) parameter
+    ∷ refuses (hex "E6 80 00 0A" ++ h) parameter
+    ∷ refuses (hex "26 81 00 0A" ++ h) parameter
+    ∷ refuses (hex "26 82 00 0A" ++ h) parameter
+    ∷ refuses (hex "26 84 00 0A" ++ h) parameter
+    ∷ refuses (hex "26 88 00 0A" ++ h) parameter
+    ∷ refuses (hex "26 90 00 0A" ++ h) parameter
+    ∷ refuses (hex "26 A0 00 0A" ++ h) parameter
+    ∷ refuses (hex "26 C0 00 0A" ++ h) parameter
+    ∷ refuses (hex "06 00 00 0A" ++ h) parameter
+    ∷ refuses (hex "26 01 00 0A" ++ h) parameter
+    ∷ refuses (hex "26 40 00 0A" ++ h) parameter
+    ∷ refuses (hex "48 80 00 03 00 00 00") parameter
+    ∷ refuses (hex "28 01 00 03 00 00 00") parameter
+    ∷ refuses (hex "29 40 00 0A" ++ h) parameter
+    ∷ refuses (hex "0A 80 00 00") parameter
+    ∷ refuses (hex "4A 80 00 00") parameter
+    ∷ refuses (hex "2A 81 00 00") parameter
+    ∷ refuses (hex "20 C0 00 00") parameter
+    ∷ []
+
+-- ---- "kind not 1 to 9, 3": whatever the body, and whatever the verdict
+unfoldable pub kinds : List Case
+kinds =
+    refuses (hex "20 80 00 00") unsupported
+    ∷ refuses (hex "20 80 00 0C" ++ h ++ hex "00 05") unsupported
+    ∷ refuses (hex "20 00 00 0A" ++ h) unsupported
+    ∷ refuses (hex "2A 80 00 0A" ++ h) unsupported
+    ∷ refuses (hex "2A 00 00 00") unsupported
+    ∷ refuses (hex "2B 80 00 0A" ++ h) unsupported
+    ∷ refuses (hex "2F 80 00 00") unsupported
+    ∷ refuses (hex "30 80 00 0A" ++ h) unsupported
+    ∷ refuses (hex "31 80 00 0C" ++ h ++ hex "00 05") unsupported
+    ∷ refuses (hex "3F 80 00 0A" ++ h) unsupported
+    ∷ []
+
+-- ---- "body length outside the kind's, 2": one byte less and one more, before the verdict
+unfoldable pub lengths : List Case
+lengths =
+    refuses (hex "21 80 00 0B" ++ h ++ hex "00") parameter
+    ∷ refuses (hex "21 80 00 0D" ++ h ++ hex "00 05 00") parameter
+    ∷ refuses (hex "21 00 00 0B" ++ h ++ hex "00") parameter
+    ∷ refuses (hex "22 80 00 1D" ++ h ++ key ++ hex "31 32 00") parameter
+    ∷ refuses (hex "22 00 00 1D" ++ h ++ key ++ hex "31 32 00") parameter
+    ∷ refuses (hex "22 80 00 1C" ++ h ++ key ++ hex "31 32") parameter
+    ∷ refuses (hex "23 80 00 13" ++ h ++ take 9 n) parameter
+    ∷ refuses (hex "23 80 00 15" ++ h ++ n ++ hex "00") parameter
+    ∷ refuses (hex "23 00 00 15" ++ h ++ n ++ hex "00") parameter
+    ∷ refuses (hex "24 80 00 13" ++ h ++ take 9 n) parameter
+    ∷ refuses (hex "24 80 00 15" ++ h ++ n ++ hex "00") parameter
+    ∷ refuses (hex "24 00 00 13" ++ h ++ take 9 n) parameter
+    ∷ refuses (hex "25 80 00 0B" ++ h ++ hex "00") parameter
+    ∷ refuses (hex "25 80 00 0D" ++ h ++ hex "00 05 00") parameter
+    ∷ refuses (hex "25 00 00 0D" ++ h ++ hex "00 05 00") parameter
+    ∷ refuses (hex "26 80 00 09" ++ take 9 h) parameter
+    ∷ refuses (hex "26 80 00 0B" ++ h ++ hex "00") parameter
+    ∷ refuses (hex "26 00 00 00") parameter
+    ∷ refuses (hex "27 80 00 09" ++ take 9 h) parameter
+    ∷ refuses (hex "27 80 00 0B" ++ h ++ hex "00") parameter
+    ∷ refuses (hex "27 00 00 0B" ++ h ++ hex "00") parameter
+    ∷ refuses (hex "28 80 00 02 00 00") parameter
+    ∷ refuses (hex "28 80 00 00") parameter
+    ∷ refuses (hex "29 80 00 09" ++ take 9 h) parameter
+    ∷ refuses (hex "29 80 00 0B" ++ h ++ hex "00") parameter
+    ∷ []
+
+-- ---- "verdict 0 for kinds 1 to 7, 1 (8 and 9 ignore it)": before the fields of kind 2
+unfoldable pub verdicts : List Case
+verdicts =
+    refuses (hex "21 00 00 0C" ++ h ++ hex "00 05") integrity
+    ∷ refuses (hex "21 00 00 0C" ++ h ++ hex "00 00") integrity
+    ∷ refuses (hex "22 00 00 1E" ++ h ++ key ++ hex "31 32 00 51") integrity
+    ∷ refuses (hex "22 00 00 1E" ++ h ++ key ++ hex "31 32 91 51") integrity
+    ∷ refuses (right "22 00" "31 32 00" (replicate 4097 0x5A)) integrity
+    ∷ refuses (hex "23 00 00 14" ++ h ++ n) integrity
+    ∷ refuses (hex "24 00 00 14" ++ h ++ n) integrity
+    ∷ refuses (hex "25 00 00 0C" ++ h ++ hex "31 32") integrity
+    ∷ refuses (hex "26 00 00 0A" ++ h) integrity
+    ∷ refuses (hex "27 00 00 0A" ++ h) integrity
+    ∷ reads (hex "28 00 00 17 31 32 01" ++ p) (list 0x3132 (p ∷ []))
+    ∷ refuses (hex "28 00 00 03 00 00 01") parameter
+    ∷ reads (hex "29 00 00 0A" ++ h) (info h)
+    ∷ []
+
+-- ---- "the field tests of kinds 2 and 8"
+unfoldable pub fieldTests : List Case
+fieldTests =
+    -- "hash count over 8"
+    reads (right "22 80" "31 32 80" (eight ++ hex "51")) (install h (record { key = key; count = 0x3132; hashes = eightHashes; payload = hex "51" }))
+    ∷ refuses (right "22 80" "31 32 90" (eight ++ p ++ hex "51")) parameter
+    ∷ refuses (right "22 80" "31 32 F0" (eight ++ eight ++ hex "51")) parameter
+    -- "the 4 bits not zero": each of them
+    ∷ refuses (right "22 80" "31 32 01" (hex "51 52")) parameter
+    ∷ refuses (right "22 80" "31 32 02" (hex "51 52")) parameter
+    ∷ refuses (right "22 80" "31 32 04" (hex "51 52")) parameter
+    ∷ refuses (right "22 80" "31 32 08" (hex "51 52")) parameter
+    ∷ refuses (right "22 80" "31 32 18" (p ++ hex "51 52")) parameter
+    -- "or payload (body less 29 less 20 times the hash count) not 1 to 4,096 bytes": none, one, and the hashes overrun the body
+    ∷ refuses (right "22 80" "31 32 10" p) parameter
+    ∷ reads (right "22 80" "31 32 10" (p ++ hex "51")) (install h (record { key = key; count = 0x3132; hashes = p ∷ []; payload = hex "51" }))
+    ∷ refuses (right "22 80" "31 32 20" (p ++ take 19 q)) parameter
+    ∷ refuses (right "22 80" "31 32 80" eight) parameter
+    ∷ refuses (right "22 80" "31 32 10" (hex "51")) parameter
+    -- 4,096 and 4,097 bytes
+    ∷ reads (right "22 80" "31 32 00" (replicate 4096 0x5A)) (install h (record { key = key; count = 0x3132; hashes = []; payload = replicate 4096 0x5A }))
+    ∷ refuses (right "22 80" "31 32 00" (replicate 4097 0x5A)) parameter
+    ∷ reads (right "22 80" "31 32 80" (eight ++ replicate 4096 0x5A)) (install h (record { key = key; count = 0x3132; hashes = eightHashes; payload = replicate 4096 0x5A }))
+    ∷ refuses (right "22 80" "31 32 80" (eight ++ replicate 4097 0x5A)) parameter
+    -- kind 8: "hash count over 8, or body not 3 plus 20 times the hash count"
+    ∷ reads (sized "28 80" (hex "01 00 08" ++ eight)) (list 256 eightHashes)
+    ∷ refuses (sized "28 80" (hex "01 00 09" ++ eight ++ p)) parameter
+    ∷ refuses (sized "28 80" (hex "01 00 80" ++ eight)) parameter
+    ∷ refuses (hex "28 80 00 04 00 00 00 00") parameter
+    ∷ refuses (hex "28 80 00 16 00 00 01" ++ take 19 p) parameter
+    ∷ refuses (hex "28 80 00 18 00 00 01" ++ p ++ hex "00") parameter
+    ∷ refuses (hex "28 80 00 17 00 00 00" ++ p) parameter
+    ∷ refuses (hex "28 80 00 17 00 00 02" ++ p) parameter
+    ∷ []
+
+-- ---- the whole table: it is what the reader says; and the requests are written again to their frames
+unfoldable pub cases : List Case
+cases = joined (requests ∷ noFrames ∷ heads ∷ kinds ∷ lengths ∷ verdicts ∷ fieldTests ∷ [])
+
+abbrev pub written : Read → List Bytes
+written (asks r) = writeRequest r ∷ []
+written (refused r) = []
+written noFrame = []
+
+pub record Hold : Type 0 where
+  pub read : map (λ c. readRequest (c .0)) cases ≡ map (λ c. c .1) cases
+  pub write : joined (map (λ c. written (c .1)) requests) ≡ map (λ c. c .0) requests

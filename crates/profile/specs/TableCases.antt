@@ -1,0 +1,138 @@
+-- Document 01, "Slots", in worked cases: which lengths and bytes make a table, and what the bytes of a slot say.
+use Prim.Native.Nat.{ℕ}
+use mathlib.Core.Path.{_≡_}
+use mathlib.Core.List.{List, [], _∷_, _++_, map}
+use mathlib.Core.Bool.{Bool, true, false}
+use lib.ListN.{replicate}
+use Rattle.profile.specs.Bytes.{Bytes, zeros}
+use Rattle.profile.specs.Slot.{reserved, enabled, disabled, Slot, empty, taken}
+use Rattle.profile.specs.Table.{unpack, pack, slotsOf, tableOf, wholeSlots, wellSlot, wellTable}
+use Rattle.profile.specs.CaseBytes.{hex, counting, changed, H0, H1, H2, H3, K, L, A, B, five}
+use Rattle.profile.specs.CaseTables.{blank, after1, after7, after9, after11, roomy, longest, hashed1, hashed2, lent2, hashed8, nameless, keyless, twins}
+
+-- ---- "a table has 1 to 15 slots" of 4,288 bytes: lengths, and whether they are such
+abbrev pub lengths : List (ℕ × Bool)
+lengths =
+    (0, false)
+    ∷ (4287, false)
+    ∷ (4288, true)
+    ∷ (4289, false)
+    ∷ (8576, true)
+    ∷ (64320, true)
+    ∷ []
+
+-- ---- slots, and whether they are well formed: each rule broken alone, and what stands right beside it
+abbrev pub well : Bytes → Bytes × Bool
+well t = (t, true)
+
+abbrev pub ill : Bytes → Bytes × Bool
+ill t = (t, false)
+
+unfoldable pub shapes : List (Bytes × Bool)
+shapes =
+    -- "spare bits and byte 191 are 0"
+    ill (changed 0 0x41 after1)
+    ∷ ill (changed 0 0x82 after7)
+    ∷ ill (changed 0 0xC1 after9)
+    ∷ ill (changed 191 0x01 after1)
+    ∷ ill (changed 191 0x80 after7)
+    ∷ ill (changed 191 0x01 hashed8)
+    -- "hash count is at most 8"
+    ∷ well hashed8
+    ∷ ill (changed 0 0xA4 hashed8)
+    ∷ ill (changed 0 0xBC hashed8)
+    -- "hash bytes beyond the count"
+    ∷ well hashed2
+    ∷ well lent2
+    ∷ ill (changed 31 0x01 after7)
+    ∷ ill (changed 190 0x01 after7)
+    ∷ ill (changed 31 0x01 after1)
+    ∷ ill (changed 51 0x01 hashed1)
+    ∷ ill (changed 71 0x01 hashed2)
+    ∷ ill (changed 0 0x84 hashed2)
+    ∷ ill (changed 0 0x9C hashed8)
+    -- "and payload bytes beyond the length are 0"
+    ∷ ill (changed 197 0x01 after7)
+    ∷ ill (changed 4287 0x01 after7)
+    ∷ ill (changed 30 0x04 after7)
+    ∷ ill (changed 197 0x01 after9)
+    ∷ ill (changed 29 0x0F (changed 30 0xFF longest))
+    -- "Empty: all 4,288 bytes are 0."
+    ∷ well blank
+    ∷ ill (changed 0 0x01 blank)
+    ∷ ill (changed 0 0x04 blank)
+    ∷ ill (changed 1 0x01 blank)
+    ∷ ill (changed 26 0x01 blank)
+    ∷ ill (changed 30 0x01 blank)
+    ∷ ill (changed 4287 0x01 blank)
+    -- "Reserved: length 1 to 4,096 (the room asked for), and hash count, key, count and payload all 0."
+    ∷ well after1
+    ∷ ill (changed 30 0x00 after1)
+    ∷ well (changed 30 0x01 after1)
+    ∷ well roomy
+    ∷ ill (changed 30 0x01 roomy)
+    ∷ ill (changed 0 0x44 after1)
+    ∷ ill (changed 0 0x60 after1)
+    ∷ ill (changed 11 0x01 after1)
+    ∷ ill (changed 26 0x01 after1)
+    ∷ ill (changed 27 0x01 after1)
+    ∷ ill (changed 28 0x01 after1)
+    ∷ ill (changed 192 0x01 after1)
+    ∷ ill (changed 4287 0x01 roomy)
+    -- "Enabled or disabled: length 1 to 4,096."
+    ∷ ill (changed 192 0x00 (changed 30 0x00 hashed1))
+    ∷ well hashed1
+    ∷ well longest
+    ∷ ill (changed 30 0x01 longest)
+    ∷ ill (changed 192 0x00 (changed 30 0x00 lent2))
+    ∷ well (changed 0 0xC0 longest)
+    ∷ ill (changed 30 0x01 (changed 0 0xC0 longest))
+    -- "any key may be zero", and a count; "Equal hashes may stand in one record."
+    ∷ well keyless
+    ∷ well twins
+    ∷ []
+
+-- ---- tables of several slots
+unfoldable pub tables : List (Bytes × Bool)
+tables =
+    -- "A table is well formed when its slots are": the last one is not, the first is not
+    ill (after7 ++ changed 4287 0x01 blank)
+    ∷ ill (changed 191 0x01 after7 ++ blank)
+    -- "and no two non-empty slots have the same handle"
+    ∷ ill (after1 ++ after7)
+    ∷ ill (after7 ++ after7)
+    ∷ ill (after9 ++ after11)
+    ∷ ill (after7 ++ blank ++ after1)
+    -- but such as differ in their last or first byte alone
+    ∷ well (after7 ++ changed 10 0x02 after7)
+    ∷ well (after7 ++ changed 1 0x02 after7)
+    -- "Any ten bytes may be a handle, zeros included": one beside two empty slots, but not two
+    ∷ well (blank ++ nameless ++ blank)
+    ∷ ill (nameless ++ nameless)
+    ∷ []
+
+-- ---- bytes, and the slot that they are
+unfoldable pub slots : List (Bytes × Slot)
+slots =
+    (blank, empty)
+    ∷ (after1, taken H1 (reserved 5))
+    ∷ (roomy, taken H1 (reserved 4096))
+    ∷ (nameless, taken H0 (reserved 5))
+    ∷ (after7, taken H1 (enabled (record { key = K; count = 7; hashes = []; payload = five })))
+    ∷ (after9, taken H2 (disabled (record { key = K; count = 7; hashes = []; payload = five })))
+    ∷ (hashed1, taken H3 (enabled (record { key = L; count = 258; hashes = A ∷ []; payload = hex "BC" })))
+    ∷ (hashed2, taken H3 (enabled (record { key = L; count = 258; hashes = A ∷ B ∷ []; payload = hex "BC" })))
+    ∷ (lent2, taken H3 (disabled (record { key = L; count = 258; hashes = A ∷ B ∷ []; payload = hex "BC" })))
+    ∷ (longest, taken H1 (enabled (record { key = K; count = 7; hashes = []; payload = replicate 4096 0x5A })))
+    ∷ []
+
+-- ---- these are what the definitions say
+pub record Hold : Type 0 where
+  pub whole : map (λ c. wholeSlots (replicate (c .0) 0)) lengths ≡ map (λ c. c .1) lengths
+  pub slot-formed : map (λ c. wellSlot (c .0)) shapes ≡ map (λ c. c .1) shapes
+  pub table-formed : map (λ c. wellTable (c .0)) tables ≡ map (λ c. c .1) tables
+  -- slots read, and written; tables of several slots too
+  pub read : map (λ c. unpack (c .0)) slots ≡ map (λ c. c .1) slots
+  pub written : map (λ c. pack (c .1)) slots ≡ map (λ c. c .0) slots
+  pub reads : slotsOf (after1 ++ blank ++ after7) ≡ map unpack (after1 ∷ blank ∷ after7 ∷ [])
+  pub writes : tableOf (unpack after1 ∷ unpack blank ∷ unpack after7 ∷ []) ≡ after1 ++ blank ++ after7
