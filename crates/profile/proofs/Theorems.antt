@@ -21,6 +21,7 @@ use Rattle.profile.proofs.Statuses.{never-8}
 use Rattle.profile.proofs.AnyTable.{count-under, stays-well}
 use Rattle.profile.proofs.Laws.{apart, refuses, found-is, sets-lowest, lists-exactly}
 use Rattle.profile.proofs.Cases.{bytes-hold, tables-hold, requests-hold, acts-hold, cases-hold, writer-hold, replies-hold, listings-hold, histories-hold}
+use Rattle.profile.proofs.KeyCases.{keys-hold}
 use Rattle.profile.proofs.Demand3.{demand-3}
 
 packs : (t : List Slot) → TableFits t → distinct t ≡ true → 1 ≤ length t → length t ≤ 15 → Packs t
@@ -60,5 +61,6 @@ theorems =
       replies-hold = replies-hold;
       listings-hold = listings-hold;
       histories-hold = histories-hold;
+      keys-hold = keys-hold;
       demand-3 = demand-3;
     }

@@ -23,6 +23,7 @@ use Rattle.profile.specs.WriterCases
 use Rattle.profile.specs.ReplyCases
 use Rattle.profile.specs.ListingCases
 use Rattle.profile.specs.HistoryCases
+use Rattle.profile.specs.KeyCases
 use Rattle.profile.specs.Demand3.{Demand3}
 use Rattle.profile.specs.Laws.{Apart, Refuses, FoundIs, SetsLowest, ListsExactly}
 
@@ -100,5 +101,6 @@ pub record Theorems : Type 0 where
   pub replies-hold : ReplyCases.Hold
   pub listings-hold : ListingCases.Hold
   pub histories-hold : HistoryCases.Hold
+  pub keys-hold : KeyCases.Hold
   -- demand 3, of every table of 1 to 15 slots and every sequence of calls
   pub demand-3 : (n : ℕ) → 1 ≤ n → n ≤ 15 → (cs : List Call) → Demand3 n cs

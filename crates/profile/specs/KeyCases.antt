@@ -1,0 +1,58 @@
+-- The words of demand 3 in worked cases: calls by which a key goes out, returns, installations, and tables that differ in keys alone.
+use Prim.Native.Nat.{ℕ}
+use mathlib.Core.Path.{_≡_}
+use mathlib.Core.List.{List, [], _∷_, _++_, map}
+use mathlib.Core.Bool.{true, false}
+use lib.ListN.{take, drop, replicate}
+use Rattle.profile.specs.Bytes.{Bytes}
+use Rattle.profile.specs.Request.{install, query, retrieve, enable, remove}
+use Rattle.profile.specs.Agent.{Call}
+use Rattle.profile.specs.History.{forUse, lent, gone, Exchange}
+use Rattle.profile.specs.CaseBytes.{hex, H1, H2, H3, H4, L}
+use Rattle.profile.specs.CaseTables.{blank, after1, after7, after9, hashed2}
+use Rattle.profile.specs.HistoryCases.{plain, other, asking}
+use Rattle.profile.specs.Contents.{Installed, installations, lastCount, held}
+use Rattle.profile.specs.Demand3.{KeyOut, returned, AlikeButKeys}
+
+-- a call with a frame
+abbrev pub calling : Bytes → Call
+calling f = record { request = f; buffer = replicate 4279 0xAA }
+
+-- a slot with another key, its bytes 11 to 26
+abbrev pub rekeyed : Bytes → Bytes → Bytes
+rekeyed key s = take 11 s ++ key ++ drop 27 s
+
+-- ---- exchanges: two rights with equal bytes; the first is lent, comes back with the count 3, is lent again and comes back with 2; the second is removed;
+-- among them requests that are refused, and a return that is sent again
+abbrev pub later : List Exchange
+later =
+    asking (install H1 plain) 0
+    ∷ asking (enable H2 9) 4
+    ∷ asking (enable H2 3) 0
+    ∷ asking (enable H2 8) 0
+    ∷ asking (retrieve H2 H3) 0
+    ∷ asking (query H3 H4) 6
+    ∷ asking (enable H3 2) 0
+    ∷ asking (remove H1) 0
+    ∷ asking (install H1 other) 7
+    ∷ []
+
+abbrev pub exchanged : List Exchange
+exchanged = asking (install H1 plain) 0 ∷ asking (query H1 H2) 0 ∷ later
+
+-- ---- these are what the definitions say
+pub record Hold : Type 0 where
+  -- kinds 4 and 3 send a key
+  pub by-query : KeyOut after7 (calling (hex "24 80 00 14" ++ H1 ++ H2)) H1 H2
+  pub by-retrieval : KeyOut hashed2 (calling (hex "23 80 00 14" ++ H3 ++ H4)) H3 H4
+  -- returns that succeeded, under H1 to H4
+  pub returns : map (λ k. returned k exchanged) (H1 ∷ H2 ∷ H3 ∷ H4 ∷ []) ≡ false ∷ true ∷ true ∷ false ∷ []
+  pub refused-return : returned H2 (asking (enable H2 9) 4 ∷ []) ≡ false
+  -- the installations that succeeded, and the count that the first of them, and one lent under H3, has at the end
+  pub sent : map (λ p. p .right) (installations exchanged) ≡ plain ∷ plain ∷ []
+  pub named : map (λ p. p .handle) (installations exchanged) ≡ H1 ∷ H1 ∷ []
+  pub behind : map (λ p. p .later) (installations exchanged) ≡ (asking (query H1 H2) 0 ∷ later) ∷ drop 1 later ∷ []
+  pub last-counts : lastCount H1 false 7 (asking (query H1 H2) 0 ∷ later) ∷ lastCount H1 false 7 (drop 1 later) ∷ lastCount H3 true 7 later ∷ lastCount H2 false 7 [] ∷ [] ≡ 2 ∷ 7 ∷ 2 ∷ 7 ∷ []
+  pub holds : map held (forUse H1 plain ∷ lent H1 other ∷ gone plain ∷ []) ≡ plain ∷ other ∷ plain ∷ []
+  -- an enabled and a disabled record with other keys, beside an empty slot and a reservation
+  pub alike : AlikeButKeys (after7 ++ blank ++ after9 ++ hashed2) (rekeyed L after7 ++ blank ++ rekeyed (replicate 16 0x00) after9 ++ rekeyed (replicate 16 0xFF) hashed2)
