@@ -9,13 +9,13 @@ use lib.Dec.{eqb, leb}
 use lib.ListN.{length, drop, length-drop}
 use lib.Seq.{drop-cons}
 use Rattle.profile.specs.Bytes.{Bytes, Bytes256, byte, word, zeros, over, joined, pieces}
-use Rattle.profile.specs.Slot.{hashSize, mostHashes, HashesFit}
+use Rattle.profile.specs.Slot.{hashSize, mostHashes, Count, HashesFit}
 use Rattle.profile.specs.Frame.{Kind, Setup, Install, Retrieve, Query, Enable, Remove, Cancel, List', Info, kindOf, kindNumber}
 use Rattle.profile.specs.Request.{Request, setup, install, retrieve, query, enable, remove, cancel, list, info, asks, verdict, guarded, fields, readRequest, withVerdict, RequestFits}
-use Rattle.profile.specs.Device.{wholeHashes, kindHolds, requestOf, fieldsIn, Written, write}
+use Rattle.profile.specs.Device.{wholeHashes, kindHolds, requestOf, fieldsWith, fieldsIn, Arrays, Written, write}
 use Rattle.profile.specs.Theorems.{WrittenAgain}
 use Rattle.profile.proofs.Logic.{both, and-parts, eqb-true, leb-le, leb-true, ltb-false, from-1-to, positive}
-use Rattle.profile.proofs.Strings.{length-each, pieces-joined}
+use Rattle.profile.proofs.Strings.{length-zeros, length-each, pieces-joined}
 use Rattle.profile.proofs.Frames.{Reads, reads}
 use Rattle.profile.proofs.Requests.{read-fits, write-reads}
 
@@ -81,6 +81,20 @@ back (cancel h) z = refl
 back (list limit q) z = ap {B = Request} (list limit) (cut-again q z)
 back (info h) z = refl
 
+arrays-with : (h k key : Bytes) (room : ℕ) (c : Count) (limit : ℕ) (hashes payload : Bytes) → length h ≡ 10 → length k ≡ 10 → length key ≡ 16 → Arrays (fieldsWith h k key room c limit hashes payload)
+arrays-with h k key room c limit hashes payload a b d = record { handle-10 = a; new-10 = b; key-16 = d }
+
+arrays : (q : Request) → RequestFits q → Arrays (fieldsIn q)
+arrays (setup h n) z = arrays-with _ _ _ _ _ _ _ _ z (length-zeros 10) (length-zeros 16)
+arrays (install h r) z = arrays-with _ _ _ _ _ _ _ _ (z .0) (length-zeros 10) (z .1 .room .key-16)
+arrays (retrieve h k) z = arrays-with _ _ _ _ _ _ _ _ (z .0) (z .1) (length-zeros 16)
+arrays (query h k) z = arrays-with _ _ _ _ _ _ _ _ (z .0) (z .1) (length-zeros 16)
+arrays (enable h c) z = arrays-with _ _ _ _ _ _ _ _ (z .0) (length-zeros 10) (length-zeros 16)
+arrays (remove h) z = arrays-with _ _ _ _ _ _ _ _ z (length-zeros 10) (length-zeros 16)
+arrays (cancel h) z = arrays-with _ _ _ _ _ _ _ _ z (length-zeros 10) (length-zeros 16)
+arrays (list limit q) z = arrays-with _ _ _ _ _ _ _ _ (length-zeros 10) (length-zeros 10) (length-zeros 16)
+arrays (info h) z = arrays-with _ _ _ _ _ _ _ _ z (length-zeros 10) (length-zeros 16)
+
 -- ---- the verdict
 -- kinds 1 to 7 ask for it
 asks-verdict : (n : ℕ) (k : Kind) → kindOf n ≡ some k → n ≤ 7 → guarded k ≡ true
@@ -128,6 +142,7 @@ module _ (f : Bytes) (q : Request) (y : Bytes256 f) (r : Reads f q) where
 pub written-again : (f : Bytes) (q : Request) → Bytes256 f → readRequest f ≡ asks q → (buffer : Bytes) → length f ≤ length buffer → WrittenAgain f q buffer
 written-again f q y e buffer h =
     record {
+      arrays = arrays q (read-fits f q r);
       same-bytes = λ n. again f q y r buffer h ∙ ap {B = Written} (λ (x : Bytes). record { number = 0; buffer = over x buffer }) (held f q y r n);
       but-verdict = again f q y r buffer h;
     }

@@ -53,9 +53,10 @@ pub record ReadsBack (kind : ℕ) (f : Fields) (buffer : Bytes) (o : Written) : 
   pub short : length (writeRequest (requestOf of-kind f)) ≤ length buffer
   pub read : readRequest (writeRequest (requestOf of-kind f)) ≡ asks (requestOf of-kind f)
 
--- the device's writer, given the fields that a frame f of some kind was read to, writes f again: in kinds 1 to 7 the same bytes, and in every
--- kind the same but for a verdict of 0, which becomes 1
+-- the device's writer, given the fields that a frame f was read to, in arrays of their lengths, writes f again: in kinds 1 to 7 the same bytes, and
+-- in every kind the same but for a verdict of 0, which becomes 1
 pub record WrittenAgain (f : Bytes) (q : Request) (buffer : Bytes) : Type 0 where
+  pub arrays : Arrays (fieldsIn q)
   pub same-bytes : kindNumber f ≤ 7 → write (kindNumber f) (fieldsIn q) buffer ≡ record { number = 0; buffer = over f buffer }
   pub but-verdict : write (kindNumber f) (fieldsIn q) buffer ≡ record { number = 0; buffer = over (withVerdict f) buffer }
 
