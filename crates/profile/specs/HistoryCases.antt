@@ -3,7 +3,7 @@ use Prim.Native.Nat.{ℕ}
 use mathlib.Core.Path.{_≡_}
 use mathlib.Core.List.{List, [], _∷_, _++_, map}
 use mathlib.Core.Option.{none, some}
-use lib.ListN.{replicate}
+use lib.ListN.{take, replicate}
 use Rattle.profile.specs.Bytes.{Bytes}
 use Rattle.profile.specs.Slot.{Right, Entry, reserved, enabled, disabled, empty, taken}
 use Rattle.profile.specs.Frame.{parameter}
@@ -12,7 +12,7 @@ use Rattle.profile.specs.Agent.{Call}
 use Rattle.profile.specs.History.{open-setup, forUse, lent, gone, Ledger, blankLedger, rightNumber, Exchange, told, history}
 use Rattle.profile.specs.Run.{exchange, exchanges, blankTable, tableAfterAll, ledgerThen, underSlots, underLedger}
 use Rattle.profile.specs.CaseBytes.{hex, changed, H1, H2, H3, H4, H1-last, K, L, A, five}
-use Rattle.profile.specs.CaseTables.{blank, after11, waiting}
+use Rattle.profile.specs.CaseTables.{blank, after9}
 
 -- a right, the same with the count 3, and another
 abbrev pub plain : Right
@@ -113,9 +113,9 @@ calls room fs = map (λ f. record { request = f; buffer = replicate room 0xAA })
 
 pub record Hold : Type 0 where
   pub each : map telling tellings ≡ map (λ c. c .after) tellings
-  -- the run: its exchanges, the table, the ledger
+  -- the run: its exchanges; the table after the first three; the ledger
   pub ran : exchanges (blankTable 2) (calls 4279 frames) ≡ run
-  pub left : tableAfterAll 2 (calls 4279 frames) ≡ after11 ++ waiting
+  pub left : tableAfterAll 1 (calls 4279 (take 3 frames)) ≡ after9
   pub tells : history blankLedger run ≡ ledger
   pub then-told : ledgerThen 1 (calls 4279 ((hex "21 80 00 0C" ++ H1 ++ hex "00 05") ∷ [])) ≡ record { setups = open-setup H1 5 ∷ []; rights = [] }
   pub blank-at-first : blankTable 2 ≡ blank ++ blank
