@@ -71,7 +71,7 @@ tellings =
 abbrev pub telling : Case → Ledger
 telling c = told before (record { request = c .request; status = c .status })
 
--- ---- a run of calls on two blank slots: two installations with equal bytes, a lending and its return, a removal, a setup that stays
+-- ---- a run of calls on two blank slots: two installations with equal bytes, a lending by kind 4 and its return, twice, one by kind 3, a removal, a setup cancelled and one that stays
 abbrev pub frames : List Bytes
 frames =
     (hex "21 80 00 0C" ++ H1 ++ hex "00 05")
@@ -82,9 +82,13 @@ frames =
     ∷ (hex "24 80 00 14" ++ H2 ++ H3)
     ∷ hex "26 80 00"
     ∷ (hex "25 80 00 0C" ++ H2 ++ hex "00 03")
-    ∷ (hex "26 80 00 0A" ++ H1)
+    ∷ (hex "25 80 00 0C" ++ H2 ++ hex "00 04")
+    ∷ (hex "23 80 00 14" ++ H1 ++ H3)
+    ∷ (hex "26 80 00 0A" ++ H3)
     ∷ hex "2A 80 00 00"
     ∷ (hex "21 80 00 0C" ++ H4 ++ hex "00 05")
+    ∷ (hex "27 80 00 0A" ++ H4)
+    ∷ (hex "21 80 00 0C" ++ H4 ++ hex "00 09")
     ∷ []
 
 abbrev pub asking : Request → ℕ → Exchange
@@ -100,13 +104,17 @@ run =
     ∷ asking (install H1 plain) 0
     ∷ asking (query H2 H3) 6
     ∷ asking (enable H2 3) 0
-    ∷ asking (remove H1) 0
+    ∷ asking (enable H2 4) 0
+    ∷ asking (retrieve H1 H3) 0
+    ∷ asking (remove H3) 0
     ∷ asking (setup H4 5) 0
+    ∷ asking (cancel H4) 0
+    ∷ asking (setup H4 9) 0
     ∷ []
 
 -- "two installations with equal bytes are two rights": one is for use again, one is gone
 abbrev pub ledger : Ledger
-ledger = record { setups = open-setup H4 5 ∷ []; rights = forUse H2 counted3 ∷ gone plain ∷ [] }
+ledger = record { setups = open-setup H4 9 ∷ []; rights = forUse H2 counted3 ∷ gone plain ∷ [] }
 
 abbrev pub calls : ℕ → List Bytes → List Call
 calls room fs = map (λ f. record { request = f; buffer = replicate room 0xAA }) fs
@@ -128,6 +136,7 @@ pub record Hold : Type 0 where
   -- the rights by their numbers
   pub by-number : map (λ i. rightNumber i ledger) (0 ∷ 1 ∷ 2 ∷ []) ≡ some (forUse H2 counted3) ∷ some (gone plain) ∷ none ∷ []
   -- what stands under a handle, by the ledger and by the slots
+  pub under-run : map (λ h. underLedger h ledger) (H1 ∷ H2 ∷ H3 ∷ H4 ∷ []) ≡ [] ∷ (enabled counted3 ∷ []) ∷ [] ∷ (reserved 9 ∷ []) ∷ []
   pub under-ledger : map (λ h. underLedger h before) (H1 ∷ H2 ∷ H3 ∷ H4 ∷ H1-last ∷ []) ≡ (enabled plain ∷ []) ∷ (disabled other ∷ []) ∷ (reserved 5 ∷ []) ∷ (reserved 9 ∷ []) ∷ [] ∷ []
   pub under-slots : map (λ h. underSlots h (taken H1 (enabled plain) ∷ empty ∷ taken H2 (disabled other) ∷ taken H3 (reserved 5) ∷ taken H1 (reserved 9) ∷ [])) (H1 ∷ H2 ∷ H3 ∷ H1-last ∷ [])
       ≡ (enabled plain ∷ reserved 9 ∷ []) ∷ (disabled other ∷ []) ∷ (reserved 5 ∷ []) ∷ [] ∷ []
