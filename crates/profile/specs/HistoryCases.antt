@@ -71,7 +71,7 @@ tellings =
 abbrev pub telling : Case → Ledger
 telling c = told before (record { request = c .request; status = c .status })
 
--- ---- a run of calls on two blank slots: two installations with equal bytes, a lending by kind 4 and its return, twice, one by kind 3, a removal, a setup cancelled and one that stays
+-- ---- a run of calls on two blank slots: two installations with equal bytes, a lending between them, and one refused
 abbrev pub frames : List Bytes
 frames =
     (hex "21 80 00 0C" ++ H1 ++ hex "00 05")
@@ -81,20 +81,12 @@ frames =
     ∷ (hex "22 80 00 22" ++ H1 ++ K ++ hex "00 07 00" ++ five)
     ∷ (hex "24 80 00 14" ++ H2 ++ H3)
     ∷ hex "26 80 00"
-    ∷ (hex "25 80 00 0C" ++ H2 ++ hex "00 03")
-    ∷ (hex "25 80 00 0C" ++ H2 ++ hex "00 04")
-    ∷ (hex "23 80 00 14" ++ H1 ++ H3)
-    ∷ (hex "26 80 00 0A" ++ H3)
-    ∷ hex "2A 80 00 00"
-    ∷ (hex "21 80 00 0C" ++ H4 ++ hex "00 05")
-    ∷ (hex "27 80 00 0A" ++ H4)
-    ∷ (hex "21 80 00 0C" ++ H4 ++ hex "00 09")
     ∷ []
 
 abbrev pub asking : Request → ℕ → Exchange
 asking q s = record { request = q; status = s }
 
--- the frames that are no request have no exchange
+-- its exchanges: the frame that is no request has none
 abbrev pub run : List Exchange
 run =
     asking (setup H1 5) 0
@@ -103,7 +95,12 @@ run =
     ∷ asking (setup H1 5) 0
     ∷ asking (install H1 plain) 0
     ∷ asking (query H2 H3) 6
-    ∷ asking (enable H2 3) 0
+    ∷ []
+
+-- how it might go on: the return, twice, a lending by kind 3, a removal, a setup cancelled and one that stays
+abbrev pub further : List Exchange
+further =
+    asking (enable H2 3) 0
     ∷ asking (enable H2 4) 0
     ∷ asking (retrieve H1 H3) 0
     ∷ asking (remove H3) 0
@@ -112,7 +109,10 @@ run =
     ∷ asking (setup H4 9) 0
     ∷ []
 
--- "two installations with equal bytes are two rights": one is for use again, one is gone
+-- "two installations with equal bytes are two rights": one lent, one for use; in the end one for use again, one gone
+abbrev pub halfway : Ledger
+halfway = record { setups = []; rights = lent H2 plain ∷ forUse H1 plain ∷ [] }
+
 abbrev pub ledger : Ledger
 ledger = record { setups = open-setup H4 9 ∷ []; rights = forUse H2 counted3 ∷ gone plain ∷ [] }
 
@@ -124,7 +124,8 @@ pub record Hold : Type 0 where
   -- the run: its exchanges; the table after the first three; the ledger
   pub ran : exchanges (blankTable 2) (calls 4279 frames) ≡ run
   pub left : tableAfterAll 1 (calls 4279 (take 3 frames)) ≡ after9
-  pub tells : history blankLedger run ≡ ledger
+  pub tells : history blankLedger run ≡ halfway
+  pub goes-on : history blankLedger (run ++ further) ≡ ledger
   pub then-told : ledgerThen 1 (calls 4279 ((hex "21 80 00 0C" ++ H1 ++ hex "00 05") ∷ [])) ≡ record { setups = open-setup H1 5 ∷ []; rights = [] }
   pub blank-at-first : blankTable 2 ≡ blank ++ blank
   -- a call that gave a number, and a frame that is no request, have no exchange

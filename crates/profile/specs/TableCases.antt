@@ -18,6 +18,7 @@ lengths =
     ∷ (4288, true)
     ∷ (4289, false)
     ∷ (8576, true)
+    ∷ (64320, true)
     ∷ []
 
 -- ---- slots, and whether they are well formed: each rule broken alone, and what stands right beside it
