@@ -2,7 +2,7 @@
 use Prim.Native.Nat.{ℕ, _≤_}
 use mathlib.Core.Path.{_≡_, refl}
 use lib.Dec.{T, eqb, leb, eqb-refl, leb→le, le→leb}
-use Rattle.profile.specs.Slot.{Right, RightFits}
+use Rattle.profile.specs.Slot.{RightFits}
 use Rattle.profile.specs.SizeCases.{least, most, Hold}
 
 -- a number is none that differs from it, and is at most none that is less: computed

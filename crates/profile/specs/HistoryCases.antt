@@ -5,13 +5,13 @@ use mathlib.Core.List.{List, [], _∷_, _++_, map}
 use mathlib.Core.Option.{none, some}
 use lib.ListN.{take, replicate}
 use Rattle.profile.specs.Bytes.{Bytes}
-use Rattle.profile.specs.Slot.{Right, Entry, reserved, enabled, disabled, empty, taken}
+use Rattle.profile.specs.Slot.{Right, reserved, enabled, disabled, empty, taken}
 use Rattle.profile.specs.Frame.{parameter}
 use Rattle.profile.specs.Request.{Request, setup, install, retrieve, query, enable, remove, cancel, list, info, asks, refused, noFrame}
 use Rattle.profile.specs.Agent.{Call}
 use Rattle.profile.specs.History.{open-setup, forUse, lent, gone, Ledger, blankLedger, rightNumber, Exchange, told, history}
 use Rattle.profile.specs.Run.{exchange, exchanges, blankTable, tableAfterAll, ledgerThen, underSlots, underLedger}
-use Rattle.profile.specs.CaseBytes.{hex, changed, H1, H2, H3, H4, H1-last, K, L, A, five}
+use Rattle.profile.specs.CaseBytes.{hex, H1, H2, H3, H4, H1-last, K, L, A, five}
 use Rattle.profile.specs.CaseTables.{blank, after9}
 
 -- a right, the same with the count 3, and another

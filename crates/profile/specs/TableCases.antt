@@ -4,10 +4,10 @@ use mathlib.Core.Path.{_≡_}
 use mathlib.Core.List.{List, [], _∷_, _++_, map}
 use mathlib.Core.Bool.{Bool, true, false}
 use lib.ListN.{replicate}
-use Rattle.profile.specs.Bytes.{Bytes, zeros}
+use Rattle.profile.specs.Bytes.{Bytes}
 use Rattle.profile.specs.Slot.{Right, recount, rekey, reserved, enabled, disabled, Slot, empty, taken, inUse, distinct}
 use Rattle.profile.specs.Table.{placeOf, hashCountOf, spareOf, unpack, pack, slotsOf, tableOf, wholeSlots, wellSlot, wellTable}
-use Rattle.profile.specs.CaseBytes.{hex, counting, changed, H0, H1, H2, H3, H1-last, H1-first, K, L, A, B, five}
+use Rattle.profile.specs.CaseBytes.{hex, changed, H0, H1, H2, H3, H1-last, H1-first, K, L, A, B, five}
 use Rattle.profile.specs.CaseTables.{blank, after1, after7, after9, after11, roomy, longest, hashed1, hashed2, lent2, hashed8, nameless, keyless, twins}
 
 -- ---- "a table has 1 to 15 slots" of 4,288 bytes: lengths, and whether they are such
