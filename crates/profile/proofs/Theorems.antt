@@ -21,6 +21,7 @@ use Rattle.profile.proofs.Statuses.{never-8}
 use Rattle.profile.proofs.AnyTable.{count-under, stays-well}
 use Rattle.profile.proofs.Laws.{apart, refuses, found-is, sets-lowest, lists-exactly}
 use Rattle.profile.proofs.Cases.{bytes-hold, tables-hold, requests-hold, acts-hold, cases-hold, writer-hold, replies-hold, listings-hold, histories-hold}
+use Rattle.profile.proofs.SizeCases.{sizes-hold}
 use Rattle.profile.proofs.KeyCases.{keys-hold}
 use Rattle.profile.proofs.Demand3.{demand-3}
 
@@ -53,6 +54,7 @@ theorems =
       sets-lowest = sets-lowest;
       lists-exactly = lists-exactly;
       bytes-hold = bytes-hold;
+      sizes-hold = sizes-hold;
       tables-hold = tables-hold;
       requests-hold = requests-hold;
       acts-hold = acts-hold;

@@ -3,7 +3,7 @@ use Prim.Native.Nat.{ℕ}
 use mathlib.Core.Path.{_≡_}
 use mathlib.Core.List.{List, [], _∷_, _++_, map}
 use mathlib.Core.Bool.{Bool, true, false}
-use lib.ListN.{take, replicate}
+use lib.ListN.{take}
 use Rattle.profile.specs.Bytes.{Bytes, joined, pieces}
 use Rattle.profile.specs.Slot.{Right, recount, reserved, enabled, disabled, Slot, empty, taken}
 use Rattle.profile.specs.Frame.{Refusal, parameter, notFound, duplicate, unexpected, noSpace, twoRecords}
@@ -215,4 +215,6 @@ cases = joined (setups ∷ installations ∷ lendings ∷ others ∷ listings �
 
 pub record Hold : Type 0 where
   pub acts : map (λ c. act (lowestEmpty (c .slots)) (c .slots) (c .request)) cases ≡ map (λ c. c .answer) cases
+  -- "The lowest empty slot": with none empty, the number of slots
+  pub lowest : map lowestEmpty ([] ∷ full ∷ spare ∷ (empty ∷ full) ∷ twice ∷ []) ≡ 0 ∷ 3 ∷ 3 ∷ 0 ∷ 1 ∷ []
   pub firsts : map (λ l. firstOf (l .0) (pieces 10 15 fifteenHandles)) limits ≡ map (λ l. handles (l .2) (take (l .1) (pieces 10 15 fifteenHandles))) limits

@@ -5,6 +5,7 @@ use mathlib.Core.List.{List, [], _∷_, map}
 use mathlib.Core.Bool.{Bool, true, false}
 use lib.Dec.{eqb}
 use Rattle.profile.specs.Bytes.{Bytes, if_then_else_, byte, part, word, word-bytes, zeros, allZero, same, from1to, over, all, any, joined, pieces}
+use Rattle.profile.specs.Text.{text}
 use Rattle.profile.specs.CaseBytes.{hex, counting, sized, changed}
 
 -- two byte strings, and whether they are the same
@@ -25,7 +26,8 @@ abbrev pub ranges : List (ℕ × Bool)
 ranges = (0, false) ∷ (1, true) ∷ (2, true) ∷ (3, true) ∷ (4, false) ∷ []
 
 pub record Hold : Type 0 where
-  -- the hex of these pages
+  -- the bytes of a text, and the hex of these pages
+  pub spelled : text "A 0z\n" ≡ 65 ∷ 32 ∷ 48 ∷ 122 ∷ 10 ∷ []
   pub hexed : hex "00 09 0A 0F 10 7B 9C A0 FF" ≡ 0 ∷ 9 ∷ 10 ∷ 15 ∷ 16 ∷ 123 ∷ 156 ∷ 160 ∷ 255 ∷ []
   pub framed : sized "21 80" (counting 1 258) ≡ 33 ∷ 128 ∷ 1 ∷ 2 ∷ counting 1 258
   pub replaced : changed 2 9 (counting 1 4) ≡ 1 ∷ 2 ∷ 9 ∷ 4 ∷ []

@@ -62,9 +62,12 @@ H3 = replicate 10 0x03
 abbrev pub H4 : Bytes
 H4 = replicate 10 0x04
 
--- H1 but for its last byte
+-- H1 but for its last byte, and but for its first
 abbrev pub H1-last : Bytes
 H1-last = replicate 9 0x01 ++ (0x02 ∷ [])
+
+abbrev pub H1-first : Bytes
+H1-first = 0x02 ∷ replicate 9 0x01
 
 -- ---- two keys, and hashes: A and B, A but for its last byte, A but for its first, eight different ones
 abbrev pub K : Bytes

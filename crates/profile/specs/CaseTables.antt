@@ -1,5 +1,4 @@
 -- Document 01, "Examples": the states of the worked cases, written by hand from the layout of a slot.
-use Prim.Native.Nat.{ℕ}
 use mathlib.Core.List.{[], _∷_, _++_, map}
 use lib.ListN.{replicate}
 use Rattle.profile.specs.Bytes.{Bytes, joined}
@@ -69,17 +68,6 @@ keyless = laid ((0, hex "80") ∷ (1, H1) ∷ (29, hex "00 05") ∷ (192, five) 
 abbrev pub twins : Bytes
 twins = laid ((0, hex "88") ∷ (1, H1) ∷ (11, K) ∷ (27, hex "00 07") ∷ (29, hex "00 05") ∷ (31, A ++ A) ∷ (192, five) ∷ [])
 
--- ---- three slots
--- reserved H1, disabled H2, enabled H3
-abbrev pub mixed : Bytes
-mixed = after1 ++ after9 ++ hashed2
-
--- ---- fifteen slots, enabled: the handles, the first nine bytes 06 and the last from 01 to 0F, and the table
-abbrev pub numbered : ℕ → Bytes
-numbered i = replicate 9 0x06 ++ (i ∷ [])
-
+-- ---- fifteen handles, one behind another: the first nine bytes 06 and the last from 01 to 0F
 abbrev pub fifteenHandles : Bytes
-fifteenHandles = joined (map numbered (counting 0x01 15))
-
-abbrev pub fifteen : Bytes
-fifteen = joined (map (λ i. laid ((0, hex "80") ∷ (1, numbered i) ∷ (29, hex "00 01") ∷ (192, hex "BC") ∷ [])) (counting 0x01 15))
+fifteenHandles = joined (map (λ i. replicate 9 0x06 ++ (i ∷ [])) (counting 0x01 15))

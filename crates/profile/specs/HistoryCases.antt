@@ -3,16 +3,16 @@ use Prim.Native.Nat.{ℕ}
 use mathlib.Core.Path.{_≡_}
 use mathlib.Core.List.{List, [], _∷_, _++_, map}
 use mathlib.Core.Option.{none, some}
-use lib.ListN.{replicate}
+use lib.ListN.{take, replicate}
 use Rattle.profile.specs.Bytes.{Bytes}
-use Rattle.profile.specs.Slot.{Right, Entry, reserved, enabled, disabled, empty, taken}
+use Rattle.profile.specs.Slot.{Right, reserved, enabled, disabled, empty, taken}
 use Rattle.profile.specs.Frame.{parameter}
 use Rattle.profile.specs.Request.{Request, setup, install, retrieve, query, enable, remove, cancel, list, info, asks, refused, noFrame}
 use Rattle.profile.specs.Agent.{Call}
 use Rattle.profile.specs.History.{open-setup, forUse, lent, gone, Ledger, blankLedger, rightNumber, Exchange, told, history}
 use Rattle.profile.specs.Run.{exchange, exchanges, blankTable, tableAfterAll, ledgerThen, underSlots, underLedger}
-use Rattle.profile.specs.CaseBytes.{hex, changed, H1, H2, H3, H4, H1-last, K, L, A, five}
-use Rattle.profile.specs.CaseTables.{blank, after11, waiting}
+use Rattle.profile.specs.CaseBytes.{hex, H1, H2, H3, H4, H1-last, K, L, A, five}
+use Rattle.profile.specs.CaseTables.{blank, after9}
 
 -- a right, the same with the count 3, and another
 abbrev pub plain : Right
@@ -71,7 +71,7 @@ tellings =
 abbrev pub telling : Case → Ledger
 telling c = told before (record { request = c .request; status = c .status })
 
--- ---- a run of calls on two blank slots: two installations with equal bytes, a lending and its return, a removal, a setup that stays
+-- ---- a run of calls on two blank slots: two installations with equal bytes, a lending between them, and one refused
 abbrev pub frames : List Bytes
 frames =
     (hex "21 80 00 0C" ++ H1 ++ hex "00 05")
@@ -81,16 +81,12 @@ frames =
     ∷ (hex "22 80 00 22" ++ H1 ++ K ++ hex "00 07 00" ++ five)
     ∷ (hex "24 80 00 14" ++ H2 ++ H3)
     ∷ hex "26 80 00"
-    ∷ (hex "25 80 00 0C" ++ H2 ++ hex "00 03")
-    ∷ (hex "26 80 00 0A" ++ H1)
-    ∷ hex "2A 80 00 00"
-    ∷ (hex "21 80 00 0C" ++ H4 ++ hex "00 05")
     ∷ []
 
 abbrev pub asking : Request → ℕ → Exchange
 asking q s = record { request = q; status = s }
 
--- the frames that are no request have no exchange
+-- its exchanges: the frame that is no request has none
 abbrev pub run : List Exchange
 run =
     asking (setup H1 5) 0
@@ -99,24 +95,37 @@ run =
     ∷ asking (setup H1 5) 0
     ∷ asking (install H1 plain) 0
     ∷ asking (query H2 H3) 6
-    ∷ asking (enable H2 3) 0
-    ∷ asking (remove H1) 0
-    ∷ asking (setup H4 5) 0
     ∷ []
 
--- "two installations with equal bytes are two rights": one is for use again, one is gone
+-- how it might go on: the return, twice, a lending by kind 3, a removal, a setup cancelled and one that stays
+abbrev pub further : List Exchange
+further =
+    asking (enable H2 3) 0
+    ∷ asking (enable H2 4) 0
+    ∷ asking (retrieve H1 H3) 0
+    ∷ asking (remove H3) 0
+    ∷ asking (setup H4 5) 0
+    ∷ asking (cancel H4) 0
+    ∷ asking (setup H4 9) 0
+    ∷ []
+
+-- "two installations with equal bytes are two rights": one lent, one for use; in the end one for use again, one gone
+abbrev pub halfway : Ledger
+halfway = record { setups = []; rights = lent H2 plain ∷ forUse H1 plain ∷ [] }
+
 abbrev pub ledger : Ledger
-ledger = record { setups = open-setup H4 5 ∷ []; rights = forUse H2 counted3 ∷ gone plain ∷ [] }
+ledger = record { setups = open-setup H4 9 ∷ []; rights = forUse H2 counted3 ∷ gone plain ∷ [] }
 
 abbrev pub calls : ℕ → List Bytes → List Call
 calls room fs = map (λ f. record { request = f; buffer = replicate room 0xAA }) fs
 
 pub record Hold : Type 0 where
   pub each : map telling tellings ≡ map (λ c. c .after) tellings
-  -- the run: its exchanges, the table, the ledger
+  -- the run: its exchanges; the table after the first three; the ledger
   pub ran : exchanges (blankTable 2) (calls 4279 frames) ≡ run
-  pub left : tableAfterAll 2 (calls 4279 frames) ≡ after11 ++ waiting
-  pub tells : history blankLedger run ≡ ledger
+  pub left : tableAfterAll 1 (calls 4279 (take 3 frames)) ≡ after9
+  pub tells : history blankLedger run ≡ halfway
+  pub goes-on : history blankLedger (run ++ further) ≡ ledger
   pub then-told : ledgerThen 1 (calls 4279 ((hex "21 80 00 0C" ++ H1 ++ hex "00 05") ∷ [])) ≡ record { setups = open-setup H1 5 ∷ []; rights = [] }
   pub blank-at-first : blankTable 2 ≡ blank ++ blank
   -- a call that gave a number, and a frame that is no request, have no exchange
@@ -128,6 +137,7 @@ pub record Hold : Type 0 where
   -- the rights by their numbers
   pub by-number : map (λ i. rightNumber i ledger) (0 ∷ 1 ∷ 2 ∷ []) ≡ some (forUse H2 counted3) ∷ some (gone plain) ∷ none ∷ []
   -- what stands under a handle, by the ledger and by the slots
+  pub under-run : map (λ h. underLedger h ledger) (H1 ∷ H2 ∷ H3 ∷ H4 ∷ []) ≡ [] ∷ (enabled counted3 ∷ []) ∷ [] ∷ (reserved 9 ∷ []) ∷ []
   pub under-ledger : map (λ h. underLedger h before) (H1 ∷ H2 ∷ H3 ∷ H4 ∷ H1-last ∷ []) ≡ (enabled plain ∷ []) ∷ (disabled other ∷ []) ∷ (reserved 5 ∷ []) ∷ (reserved 9 ∷ []) ∷ [] ∷ []
   pub under-slots : map (λ h. underSlots h (taken H1 (enabled plain) ∷ empty ∷ taken H2 (disabled other) ∷ taken H3 (reserved 5) ∷ taken H1 (reserved 9) ∷ [])) (H1 ∷ H2 ∷ H3 ∷ H1-last ∷ [])
       ≡ (enabled plain ∷ reserved 9 ∷ []) ∷ (disabled other ∷ []) ∷ (reserved 5 ∷ []) ∷ [] ∷ []

@@ -1,5 +1,4 @@
 -- The words of demand 3 in worked cases: calls by which a key goes out, returns, installations, and tables that differ in keys alone.
-use Prim.Native.Nat.{ℕ}
 use mathlib.Core.Path.{_≡_}
 use mathlib.Core.List.{List, [], _∷_, _++_, map}
 use mathlib.Core.Bool.{true, false}
@@ -9,9 +8,9 @@ use Rattle.profile.specs.Request.{install, query, retrieve, enable, remo
 use Rattle.profile.specs.Agent.{Call}
 use Rattle.profile.specs.History.{forUse, lent, gone, Exchange}
 use Rattle.profile.specs.CaseBytes.{hex, H1, H2, H3, H4, L}
-use Rattle.profile.specs.CaseTables.{blank, after1, after7, after9, hashed2}
+use Rattle.profile.specs.CaseTables.{blank, after7, after9, hashed2, waiting}
 use Rattle.profile.specs.HistoryCases.{plain, other, asking}
-use Rattle.profile.specs.Contents.{Installed, installations, lastCount, held}
+use Rattle.profile.specs.Contents.{installations, lastCount, held}
 use Rattle.profile.specs.Demand3.{KeyOut, returned, AlikeButKeys}
 
 -- a call with a frame
@@ -55,4 +54,4 @@ pub record Hold : Type 0 where
   pub last-counts : lastCount H1 false 7 (asking (query H1 H2) 0 ∷ later) ∷ lastCount H1 false 7 (drop 1 later) ∷ lastCount H3 true 7 later ∷ lastCount H2 false 7 [] ∷ [] ≡ 2 ∷ 7 ∷ 2 ∷ 7 ∷ []
   pub holds : map held (forUse H1 plain ∷ lent H1 other ∷ gone plain ∷ []) ≡ plain ∷ other ∷ plain ∷ []
   -- an enabled and a disabled record with other keys, beside an empty slot and a reservation
-  pub alike : AlikeButKeys (after7 ++ blank ++ after9 ++ hashed2) (rekeyed L after7 ++ blank ++ rekeyed (replicate 16 0x00) after9 ++ rekeyed (replicate 16 0xFF) hashed2)
+  pub alike : AlikeButKeys (after7 ++ blank ++ after9 ++ waiting) (rekeyed L after7 ++ blank ++ rekeyed (replicate 16 0x00) after9 ++ waiting)

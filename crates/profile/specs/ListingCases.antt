@@ -8,7 +8,7 @@ use Rattle.profile.specs.Bytes.{Bytes}
 use Rattle.profile.specs.Text.{text}
 use Rattle.profile.specs.Listing.{listing, lines, decimal}
 use Rattle.profile.specs.CaseBytes.{hex, laid, changed, H2}
-use Rattle.profile.specs.CaseTables.{blank, after1, hashed8, longest}
+use Rattle.profile.specs.CaseTables.{blank, after1, hashed8, longest, waiting}
 
 -- disabled, with the greatest count, and the length 256
 abbrev pub counted : Bytes
@@ -20,7 +20,7 @@ cases =
     -- "A one-slot table after case 1 gives exactly"
     (after1, "slot place hashes count length\n0 reserved 0 0 5\n")
     -- all four places
-    ∷ (hashed8 ++ blank ++ counted, "slot place hashes count length\n0 enabled 8 7 5\n1 empty 0 0 0\n2 disabled 0 65535 256\n")
+    ∷ (hashed8 ++ blank ++ counted ++ waiting, "slot place hashes count length\n0 enabled 8 7 5\n1 empty 0 0 0\n2 disabled 0 65535 256\n3 reserved 0 0 5\n")
     ∷ (changed 27 0x04 (changed 28 0xD2 longest), "slot place hashes count length\n0 enabled 0 1234 4096\n")
     -- "For a refused table it prints one line"
     ∷ ([], "refused 102\n")

@@ -7,7 +7,7 @@ use mathlib.Core.Bool.{true, false}
 use lib.ListN.{take, replicate}
 use Rattle.profile.specs.Bytes.{Bytes, joined}
 use Rattle.profile.specs.Frame.{integrity, parameter, unsupported, notFound, duplicate, unexpected, noSpace, twoRecords}
-use Rattle.profile.specs.Agent.{Given, nothing, theRight, theKey, handles, counted, deny, done, Answer, replyFrame}
+use Rattle.profile.specs.Agent.{nothing, theRight, theKey, handles, counted, deny, done, Answer, replyFrame}
 use Rattle.profile.specs.Device.{Reply, malformed, failed, gave, readReply, sent}
 use Rattle.profile.specs.CaseBytes.{hex, counting, sized}
 

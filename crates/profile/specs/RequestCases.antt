@@ -2,10 +2,12 @@
 use Prim.Native.String.{String}
 use mathlib.Core.Path.{_≡_}
 use mathlib.Core.List.{List, [], _∷_, _++_, map}
-use lib.ListN.{take, drop, replicate}
+use Prim.Native.Nat.{ℕ}
+use mathlib.Core.Bool.{Bool, true, false}
+use lib.ListN.{take, replicate}
 use Rattle.profile.specs.Bytes.{Bytes, joined}
-use Rattle.profile.specs.Frame.{Refusal, integrity, parameter, unsupported}
-use Rattle.profile.specs.Request.{Request, setup, install, retrieve, query, enable, remove, cancel, list, info, Read, asks, refused, noFrame, readRequest, writeRequest}
+use Rattle.profile.specs.Frame.{Kind, Setup, Install, Retrieve, Query, Enable, Remove, Cancel, List', Info, versionHolds, kindNumber, Refusal, integrity, parameter, unsupported}
+use Rattle.profile.specs.Request.{Request, setup, install, retrieve, query, enable, remove, cancel, list, info, Read, asks, refused, noFrame, verdict, zeroBits, bodyFits, readRequest, writeRequest}
 use Rattle.profile.specs.CaseBytes.{hex, counting, sized}
 
 -- a frame, and what it is read as
@@ -229,6 +231,27 @@ written (asks r) = writeRequest r ∷ []
 written (refused r) = []
 written noFrame = []
 
+-- the kinds, the lengths around theirs, and which of these are allowed
+abbrev pub bodies : List (Kind × List ℕ × List Bool)
+bodies =
+    (Setup, 10 ∷ 11 ∷ 12 ∷ 13 ∷ [], false ∷ false ∷ true ∷ false ∷ [])
+    ∷ (Install, 28 ∷ 29 ∷ 30 ∷ 31 ∷ 5000 ∷ [], false ∷ false ∷ true ∷ true ∷ true ∷ [])
+    ∷ (Retrieve, 19 ∷ 20 ∷ 21 ∷ [], false ∷ true ∷ false ∷ [])
+    ∷ (Query, 19 ∷ 20 ∷ 21 ∷ [], false ∷ true ∷ false ∷ [])
+    ∷ (Enable, 11 ∷ 12 ∷ 13 ∷ [], false ∷ true ∷ false ∷ [])
+    ∷ (Remove, 9 ∷ 10 ∷ 11 ∷ [], false ∷ true ∷ false ∷ [])
+    ∷ (Cancel, 9 ∷ 10 ∷ 11 ∷ [], false ∷ true ∷ false ∷ [])
+    ∷ (List', 2 ∷ 3 ∷ 4 ∷ 163 ∷ 183 ∷ [], false ∷ true ∷ true ∷ true ∷ true ∷ [])
+    ∷ (Info, 9 ∷ 10 ∷ 11 ∷ [], false ∷ true ∷ false ∷ [])
+    ∷ []
+
 pub record Hold : Type 0 where
+  pub lengths-fit : map (λ k. map (bodyFits (k .0)) (k .1)) bodies ≡ map (λ k. k .2) bodies
+  -- "verdict 1 bit (1 means the MAC held), 7 zero bits"
+  pub verdict-bit : map verdict (hex "21 00" ∷ hex "21 7F" ∷ hex "21 80" ∷ hex "21 FF" ∷ []) ≡ 0 ∷ 0 ∷ 1 ∷ 1 ∷ []
+  pub zero-bits : map zeroBits (hex "21 00" ∷ hex "21 80" ∷ hex "21 81" ∷ hex "21 40" ∷ []) ≡ true ∷ true ∷ false ∷ false ∷ []
+  -- "version 3 bits (1), kind 5 bits"
+  pub versions : map versionHolds (hex "00" ∷ hex "1F" ∷ hex "20" ∷ hex "3F" ∷ hex "40" ∷ hex "61" ∷ []) ≡ false ∷ false ∷ true ∷ true ∷ false ∷ false ∷ []
+  pub kind-bits : map kindNumber (hex "00" ∷ hex "1F" ∷ hex "E0" ∷ hex "30" ∷ hex "2A" ∷ []) ≡ 0 ∷ 31 ∷ 0 ∷ 16 ∷ 10 ∷ []
   pub read : map (λ c. readRequest (c .0)) cases ≡ map (λ c. c .1) cases
   pub write : joined (map (λ c. written (c .1)) requests) ≡ map (λ c. c .0) requests

@@ -4,10 +4,10 @@ use mathlib.Core.Path.{_≡_}
 use mathlib.Core.List.{List, [], _∷_, _++_, map}
 use mathlib.Core.Bool.{Bool, true, false}
 use lib.ListN.{replicate}
-use Rattle.profile.specs.Bytes.{Bytes, zeros}
-use Rattle.profile.specs.Slot.{reserved, enabled, disabled, Slot, empty, taken}
-use Rattle.profile.specs.Table.{unpack, pack, slotsOf, tableOf, wholeSlots, wellSlot, wellTable}
-use Rattle.profile.specs.CaseBytes.{hex, counting, changed, H0, H1, H2, H3, K, L, A, B, five}
+use Rattle.profile.specs.Bytes.{Bytes}
+use Rattle.profile.specs.Slot.{Right, recount, reserved, enabled, disabled, Slot, empty, taken, inUse, distinct}
+use Rattle.profile.specs.Table.{placeOf, hashCountOf, spareOf, unpack, pack, slotsOf, tableOf, wholeSlots, wellSlot, wellTable}
+use Rattle.profile.specs.CaseBytes.{hex, changed, H0, H1, H2, H3, H1-last, H1-first, K, L, A, B, five}
 use Rattle.profile.specs.CaseTables.{blank, after1, after7, after9, after11, roomy, longest, hashed1, hashed2, lent2, hashed8, nameless, keyless, twins}
 
 -- ---- "a table has 1 to 15 slots" of 4,288 bytes: lengths, and whether they are such
@@ -100,15 +100,31 @@ tables =
     ∷ ill (changed 191 0x01 after7 ++ blank)
     -- "and no two non-empty slots have the same handle"
     ∷ ill (after1 ++ after7)
-    ∷ ill (after7 ++ after7)
     ∷ ill (after9 ++ after11)
-    ∷ ill (after7 ++ blank ++ after1)
-    -- but such as differ in their last or first byte alone
+    -- but such as differ in their last byte alone
     ∷ well (after7 ++ changed 10 0x02 after7)
-    ∷ well (after7 ++ changed 1 0x02 after7)
-    -- "Any ten bytes may be a handle, zeros included": one beside two empty slots, but not two
-    ∷ well (blank ++ nameless ++ blank)
+    -- "Any ten bytes may be a handle, zeros included": one beside an empty slot, but not two
+    ∷ well (nameless ++ blank)
     ∷ ill (nameless ++ nameless)
+    ∷ []
+
+-- ---- the same of slots told without their bytes: whichever the places, and wherever they stand
+abbrev pub plain : Right
+plain = record { key = K; count = 7; hashes = A ∷ []; payload = five }
+
+unfoldable pub handles : List (List Slot × Bool)
+handles =
+    ([], true)
+    ∷ (empty ∷ empty ∷ [], true)
+    ∷ (taken H1 (reserved 5) ∷ taken H2 (enabled plain) ∷ taken H3 (disabled plain) ∷ [], true)
+    ∷ (taken H1 (enabled plain) ∷ taken H1-last (enabled plain) ∷ taken H1-first (enabled plain) ∷ [], true)
+    ∷ (empty ∷ taken H0 (reserved 5) ∷ empty ∷ [], true)
+    ∷ (taken H1 (reserved 5) ∷ taken H1 (enabled plain) ∷ [], false)
+    ∷ (taken H1 (enabled plain) ∷ taken H1 (enabled plain) ∷ [], false)
+    ∷ (taken H1 (disabled plain) ∷ taken H1 (enabled plain) ∷ [], false)
+    ∷ (taken H1 (reserved 5) ∷ empty ∷ taken H1 (disabled plain) ∷ [], false)
+    ∷ (taken H2 (enabled plain) ∷ taken H1 (reserved 5) ∷ taken H1 (reserved 5) ∷ [], false)
+    ∷ (empty ∷ taken H0 (reserved 5) ∷ taken H0 (enabled plain) ∷ [], false)
     ∷ []
 
 -- ---- bytes, and the slot that they are
@@ -131,6 +147,15 @@ pub record Hold : Type 0 where
   pub whole : map (λ c. wholeSlots (replicate (c .0) 0)) lengths ≡ map (λ c. c .1) lengths
   pub slot-formed : map (λ c. wellSlot (c .0)) shapes ≡ map (λ c. c .1) shapes
   pub table-formed : map (λ c. wellTable (c .0)) tables ≡ map (λ c. c .1) tables
+  pub apart : map (λ c. distinct (c .0)) handles ≡ map (λ c. c .1) handles
+  -- "handle in any non-empty slot"
+  pub in-use : map (λ h. inUse h (taken H1 (reserved 5) ∷ empty ∷ taken H2 (enabled plain) ∷ taken H3 (disabled plain) ∷ [])) (H1 ∷ H2 ∷ H3 ∷ H1-last ∷ H0 ∷ []) ≡ true ∷ true ∷ true ∷ false ∷ false ∷ []
+  -- a right with another count, and with another key
+  pub recounted : recount 3 plain ≡ record { key = K; count = 3; hashes = A ∷ []; payload = five }
+  -- byte 0: "place 2 bits, hash count 4 bits, 2 spare bits"
+  pub places : map (λ b. placeOf (b ∷ [])) (0x3F ∷ 0x40 ∷ 0x80 ∷ 0xC0 ∷ []) ≡ 0 ∷ 1 ∷ 2 ∷ 3 ∷ []
+  pub counts : map (λ b. hashCountOf (b ∷ [])) (0xC3 ∷ 0x04 ∷ 0xE0 ∷ 0x3C ∷ []) ≡ 0 ∷ 1 ∷ 8 ∷ 15 ∷ []
+  pub spares : map (λ b. spareOf (b ∷ [])) (0xFC ∷ 0x01 ∷ 0x82 ∷ 0xFF ∷ []) ≡ 0 ∷ 1 ∷ 2 ∷ 3 ∷ []
   -- slots read, and written; tables of several slots too
   pub read : map (λ c. unpack (c .0)) slots ≡ map (λ c. c .1) slots
   pub written : map (λ c. pack (c .1)) slots ≡ map (λ c. c .0) slots

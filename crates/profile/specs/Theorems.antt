@@ -15,6 +15,7 @@ use Rattle.profile.specs.Request.{Request, setup, list, asks, readReques
 use Rattle.profile.specs.Agent.{Given, Answer, done, find, act, lowestEmpty, replyFrame, Call, Outcome, replied, agent}
 use Rattle.profile.specs.Device.{Fields, requestOf, fieldsIn, Arrays, Written, write, readReply, sent}
 use Rattle.profile.specs.BytesCases
+use Rattle.profile.specs.SizeCases
 use Rattle.profile.specs.TableCases
 use Rattle.profile.specs.RequestCases
 use Rattle.profile.specs.ActCases
@@ -94,6 +95,7 @@ pub record Theorems : Type 0 where
   pub lists-exactly : (place : ℕ) (t : List Slot) (limit : ℕ) (q : List Bytes) → (g : Given) × (act place t (list limit q) ≡ done g t) × ListsExactly limit q t g
   -- "Examples", and every rule in worked cases, table by table
   pub bytes-hold : BytesCases.Hold
+  pub sizes-hold : SizeCases.Hold
   pub tables-hold : TableCases.Hold
   pub requests-hold : RequestCases.Hold
   pub acts-hold : ActCases.Hold

@@ -66,7 +66,7 @@ abbrev pub all-of : Bytes → Bytes → Bytes → ℕ → ℕ → ℕ → Bytes 
 all-of handle new key room count limit hashes payload =
     record { handle = handle; new = new; key = key; room = room; count = count; limit = limit; hashes = hashes; payload = payload }
 
--- the fields of a kind, with more or with something that the kind lacks: the functions below have it for every field
+-- the same fields but for one
 abbrev pub with-new : Bytes → Fields → Fields
 with-new x f = record { handle = f .handle; new = x; key = f .key; room = f .room; count = f .count; limit = f .limit; hashes = f .hashes; payload = f .payload }
 
