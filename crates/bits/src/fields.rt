@@ -18,10 +18,10 @@ pub fn slot_hashes(b: u8) -> u8
 }
 
 // The two spare bits of slot byte 0, which are 0 in a well-formed slot.
-pub fn slot_spare(b: u8) -> u8
-    ensures { λ r. ⌜ r ≡ b % 4 ⌝ }
+pub fn slot_spare(head: u8) -> u8
+    ensures { λ r. ⌜ r ≡ head % 4 ⌝ }
 {
-    b & 3
+    head & 3
 }
 
 // Slot byte 0 of a place and a hash count, with its spare bits 0.

@@ -1,8 +1,9 @@
 // Handles, keys and hashes read from a frame or a slot as arrays by value.
 ghost use mathlib.Core.Path.{_≡_};
-ghost use Prim.Native.Nat.{_+_, _*_, _≤_};
-ghost use lib.ListN.{length, take, drop};
-ghost use Rattle.profile.specs.Bytes.{part, pieces};
+ghost use mathlib.Core.List.{_++_};
+ghost use Prim.Native.Nat.{_+_, _-_, _*_, _≤_};
+ghost use lib.ListN.{length, drop, replicate};
+ghost use Rattle.profile.specs.Bytes.{part, pieces, zeros};
 
 // The one copying loop: arrays of every width, and parts of a buffer, are filled by it.
 pub fn copy_from(d: &mut [u8], s: &[u8], at: usize)
@@ -41,15 +42,15 @@ pub fn hash_at(s: &[u8], at: usize) -> [u8; 20]
     requires { ⌜ at + 20 ≤ length (now s) ⌝ }
     ensures { λ r. ⌜ r ≡ part at 20 (now (s .entry)) ⌝ }
 {
-    let mut h = [0u8; 20];
-    copy_from(&mut h, s, at);
-    h
+    let mut hash = [0u8; 20];
+    copy_from(&mut hash, s, at);
+    hash
 }
 
-// "a query's hashes as a local array of arrays": the first n are the query's, in its order.
+// "a query's hashes as a local array of arrays": the first n are the query's, in its order, and the rest are all zero.
 pub fn hashes_at(s: &[u8], at: usize, n: usize) -> [[u8; 20]; 8]
     requires { ⌜ (n ≤ 8) × (at + 20 * n ≤ length (now s)) ⌝ }
-    ensures { λ r. ⌜ take n r ≡ pieces 20 n (drop at (now (s .entry))) ⌝ }
+    ensures { λ r. ⌜ r ≡ pieces 20 n (drop at (now (s .entry))) ++ replicate (8 - n) (zeros 20) ⌝ }
 {
     let mut q = [[0u8; 20]; 8];
     let mut i = 0;

@@ -10,12 +10,21 @@ ghost use Rattle.profile.specs.Device.{put};
 ghost use Rattle.request_writer.specs.Writing.{wrote, started, rightBody};
 use crate::given::Plain;
 
+// The head of a body of n bytes: "writes the verdict as 1", above seven zero bits.
+fn request_head(kind: u8, n: u16) -> [u8; 4]
+    requires { ⌜ kind < 32 ⌝ }
+    ensures { λ r. ⌜ r ≡ started kind n [] ⌝ }
+{
+    let verdict = bits::fields::flag_byte(true);
+    buffers::frame_start(kind, verdict, n)
+}
+
 // The head of a body of n bytes, and the handle that stands first in it.
 fn put_handle(out: &mut [u8], kind: u8, n: u16, handle: [u8; 10])
     requires { ⌜ (kind < 32) × (14 ≤ length (now out)) ⌝ }
     ensures { λ _. ⌜ now (out .exit) ≡ overAt 0 (started kind n handle) (now (out .entry)) ⌝ }
 {
-    let head = buffers::frame_start(kind, 128, n);
+    let head = request_head(kind, n);
     buffers::put_bytes(out, 0, &head);
     buffers::put_bytes(out, 4, &handle);
 }
@@ -76,7 +85,7 @@ pub fn write_hashes(out: &mut [u8], limit: u16, n: u8, hashes: &[u8]) -> u16
     if out.len() < 4 + size {
         return 201;
     }
-    let head = buffers::frame_start(8, 128, size as u16);
+    let head = request_head(8, size as u16);
     buffers::put_bytes(out, 0, &head);
     let three = counted(limit, n);
     buffers::put_bytes(out, 4, &three);

@@ -6,3 +6,5 @@ pub mod Unpacking
 pub mod WellSlots
 -- hashes
 pub mod Querying
+-- one outcome
+pub mod OneAnswer

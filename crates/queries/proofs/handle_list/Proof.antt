@@ -3,6 +3,7 @@ use denote.Ref.{now}
 use native.Mathlib.Omega.{arith}
 use lib.ListN.{drop}
 use Rattle.profile.specs.Bytes.{pieces}
+use Rattle.octets.proofs.Copying.{pieces-first}
 use Rattle.queries.proofs.Closing.{found-15, closed-whole, closed-short}
 use borrow.Author.Needs.{needs}
 use Rattle.queries.proofs.handle_list.Statement.{statement}
@@ -38,9 +39,10 @@ returns c =
     let m = p .before .before in
     let q = m .before in
     let start = q .before .before .before .before in
+    let asked = pieces-first 20 (start .args .hashes) (drop (start .args .at) (now (start .args .frame))) (q .hashes-at .result) _ (q .hashes-at .ensures) in
     closed-whole (now (start .args .table)) (now (start .args .reply)) (start .pre .0) (start .args .limit) (pieces 20 (start .args .hashes) (drop (start .args .at) (now (start .args .frame))))
     (p .put-handles .result) (m .most-handles .result) (p .put-handles .last .1 .0)
-    (rw (q .hashes-at .ensures) at (p .put-handles .ensures .0)) (m .most-handles .ensures) (rw (q .hashes-at .ensures) at (p .put-handles .ensures .1))
+    (rw asked at (p .put-handles .ensures .0)) (m .most-handles .ensures) (rw asked at (p .put-handles .ensures .1))
     (c .before .before .before .before .if1 .taken) _ (c .before .before .close-list .ensures)
 
 same-length-2 : tie.Need-same-length-2
@@ -52,9 +54,10 @@ returns-2 c =
     let m = p .before .before in
     let q = m .before in
     let start = q .before .before .before .before in
+    let asked = pieces-first 20 (start .args .hashes) (drop (start .args .at) (now (start .args .frame))) (q .hashes-at .result) _ (q .hashes-at .ensures) in
     closed-short (now (start .args .table)) (now (start .args .reply)) (start .pre .0) (start .args .limit) (pieces 20 (start .args .hashes) (drop (start .args .at) (now (start .args .frame))))
     (p .put-handles .result) (m .most-handles .result) (p .put-handles .last .1 .0)
-    (rw (q .hashes-at .ensures) at (p .put-handles .ensures .0)) (m .most-handles .ensures) (rw (q .hashes-at .ensures) at (p .put-handles .ensures .1))
+    (rw asked at (p .put-handles .ensures .0)) (m .most-handles .ensures) (rw asked at (p .put-handles .ensures .1))
     (c .before .before .before .before .if1 .left) _ (c .before .before .close-list2 .ensures)
 
 pub handle-list-spec : {M : Type 1} → statement M

@@ -19,7 +19,7 @@ same-length c = search needs
 returns : tie.Need-returns
 returns c =
     let k = c .before .before .before in
-    (refl, rw (← (k .frame-kind .ensures)) (c .before .before .reply-status .ensures))
+    (refl, rw (k .frame-kind .ensures) at (c .before .before .reply-status .ensures))
 
 pub refuse-with-spec : {M : Type 1} → statement M
 refuse-with-spec =

@@ -1,22 +1,24 @@
--- `octets::arrays::hashes_at` meets its contract. The invariant: the first i arrays are the first i pieces. Assumes nothing.
+-- `octets::arrays::hashes_at` meets its contract. The invariant: the first i arrays are the first i pieces, and
+-- the rest are zero. Assumes nothing.
 use mathlib.Core.Path.{_≡_}
 use Prim.Native.Nat.{_≤_, _-_}
 use native.Mathlib.Omega.{arith}
-use lib.ListN.{length, take, drop}
-use Rattle.profile.specs.Bytes.{pieces}
-use Rattle.octets.proofs.Copying.{pieces-more}
+use lib.ListN.{length, take, drop, replicate}
+use Rattle.profile.specs.Bytes.{pieces, zeros}
+use Rattle.octets.proofs.Copying.{pieces-more, rest-more, pieces-all}
 use borrow.Author.Needs.{needs}
 use Rattle.octets.proofs.arrays.hashes_at.Statement.{statement}
 use Rattle.octets.proofs.arrays.hashes_at.Tie as tie
 use Rattle.octets.proofs.arrays.hash_at.Reads as hash-at-reads
 
 abbrev Inv-loop : tie.InvT-loop
-Inv-loop s at n q₀ i₀ q i = (i ≤ n) × (length q ≡ 8) × (take i q ≡ pieces 20 i (drop at s))
+Inv-loop s at n q₀ i₀ q i = (i ≤ n) × (length q ≡ 8) × (take i q ≡ pieces 20 i (drop at s)) × (drop i q ≡ replicate (8 - i) (zeros 20))
 
 abbrev μ-loop : tie.MeasureT-loop
 μ-loop s at n q₀ i₀ q i = n - i
 
 loop-holds : tie.Need-loop-holds Inv-loop μ-loop
+unfolding zeros
 loop-holds c = search needs
 
 mul-hash-at : tie.Need-mul-hash-at Inv-loop μ-loop
@@ -42,13 +44,19 @@ loop-less c = search needs
 
 loop-again : tie.Need-loop-again Inv-loop μ-loop
 loop-again c =
-    let l = c .before .before .loop in
-    (search needs, search needs, rw (c .hash-at .ensures) (pieces-more 20 (l .q) (l .i) _ _ (omega arith) (l .inv .2)))
+    let l = c .before .before .loop in (
+      search needs,
+      search needs,
+      rw (c .hash-at .ensures) (pieces-more 20 (l .q) (l .i) _ _ (omega arith) (l .inv .2)),
+      rest-more 8 (zeros 20) (l .q) (l .i) _ (l .inv .3),
+    )
 
 returns : tie.Need-returns Inv-loop μ-loop
 returns c =
-    let e : c .before .loop .i ≡ c .before .before .before .args .n = omega arith in
-    rw e at (c .before .loop .inv .2)
+    let l = c .before .loop in
+    let n = c .before .before .before .args .n in
+    let e : l .i ≡ n = omega arith in
+    pieces-all 8 n (zeros 20) (l .q) _ (rw e at (l .inv .2)) (rw e at (l .inv .3))
 
 pub hashes-at-spec : {M : Type 1} → statement M
 hashes-at-spec =

@@ -11,8 +11,8 @@ use borrow.Author.Needs.{needs}
 use Rattle.request_writer.proofs.frames.put_handle.Statement.{statement}
 use Rattle.request_writer.proofs.frames.put_handle.Tie as tie
 
-frame-start-requires : tie.Need-frame-start-requires
-frame-start-requires c κs = search needs
+request-head-requires : tie.Need-request-head-requires
+request-head-requires c κs = search needs
 
 slice-aggregate-put-bytes : tie.Need-slice-aggregate-put-bytes
 slice-aggregate-put-bytes c = search needs
@@ -34,14 +34,14 @@ returns c =
     let a = c .before .before .before .before .before .before .before .before .before .before .before .before .args in
     let h : length (a .t4) ≡ 10 = search needs in
     c .before .before .put-bytes2 .ensures
-    ∙ ap (overAt 4 (a .t4)) (c .before .before .before .before .before .before .before .put-bytes .ensures ∙ ap (λ (x : Bytes). overAt 0 x (now (a .out))) (c .before .before .before .before .before .before .before .before .before .before .frame-start .ensures))
+    ∙ ap (overAt 4 (a .t4)) (c .before .before .before .before .before .before .before .put-bytes .ensures ∙ ap (λ (x : Bytes). overAt 0 x (now (a .out))) (c .before .before .before .before .before .before .before .before .before .before .request-head .ensures))
     ∙ part-more (a .kind) (a .n) [] (a .t4) (now (a .out)) 4 refl (omega arith)
 
 pub put-handle-spec : {M : Type 1} → statement M
 put-handle-spec =
     tie.close
     (tie.spec
-    frame-start-requires
+    request-head-requires
     slice-aggregate-put-bytes
     put-bytes-requires
     slice-aggregate-put-bytes-2

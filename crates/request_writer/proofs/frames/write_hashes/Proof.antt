@@ -24,11 +24,11 @@ returns c =
     let a = c .before .before .before .args in
     frame-short 8 (word-bytes (a .limit) ++ (a .n ∷ now (a .hashes))) (now (a .out)) (3 + length (now (a .hashes))) (omega arith) (omega arith)
 
-cast-frame-start : tie.Need-cast-frame-start
-cast-frame-start c = search needs
+cast-request-head : tie.Need-cast-request-head
+cast-request-head c = search needs
 
-frame-start-requires : tie.Need-frame-start-requires
-frame-start-requires c κs = search needs
+request-head-requires : tie.Need-request-head-requires
+request-head-requires c κs = search needs
 
 slice-aggregate-put-bytes : tie.Need-slice-aggregate-put-bytes
 slice-aggregate-put-bytes c = search needs
@@ -59,7 +59,7 @@ returns-2 c =
     let y₁ = c .before .before .before .before .before .before .before .before .before .before .before .before .put-bytes .last .0 in
     let y₂ = c .before .before .before .before .before .before .put-bytes2 .last .0 in
     let y₃ = c .before .before .put-bytes3 .last .0 in
-    let e₁ : y₁ ≡ overAt 0 (started 8 size []) (now (a .out)) = c .before .before .before .before .before .before .before .before .before .before .before .before .put-bytes .ensures ∙ ap (λ (x : Bytes). overAt 0 x (now (a .out))) (c .before .before .before .before .before .before .before .before .before .before .before .before .before .before .before .frame-start .ensures) in
+    let e₁ : y₁ ≡ overAt 0 (started 8 size []) (now (a .out)) = c .before .before .before .before .before .before .before .before .before .before .before .before .put-bytes .ensures ∙ ap (λ (x : Bytes). overAt 0 x (now (a .out))) (c .before .before .before .before .before .before .before .before .before .before .before .before .before .before .before .request-head .ensures) in
     let e₂ : y₂ ≡ overAt 4 three y₁ = c .before .before .before .before .before .before .put-bytes2 .ensures ∙ ap (λ (x : Bytes). overAt 4 x y₁) (c .before .before .before .before .before .before .before .before .before .counted .ensures) in
     frame-whole 8 (word-bytes (a .limit) ++ (a .n ∷ now (a .hashes))) (now (a .out)) y₃ size (omega arith) (omega arith)
     (then-part 8 size three (now (a .hashes)) (now (a .out)) y₂ y₃ 7 (omega arith) (omega arith)
@@ -73,8 +73,8 @@ write-hashes-spec =
     add-size
     add-if1
     returns
-    cast-frame-start
-    frame-start-requires
+    cast-request-head
+    request-head-requires
     slice-aggregate-put-bytes
     put-bytes-requires
     counted-requires
