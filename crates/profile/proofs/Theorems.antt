@@ -20,7 +20,15 @@ use Rattle.profile.proofs.Replies.{replies-read}
 use Rattle.profile.proofs.Statuses.{never-8}
 use Rattle.profile.proofs.AnyTable.{count-under, stays-well}
 use Rattle.profile.proofs.Laws.{apart, refuses, found-is, sets-lowest, lists-exactly}
-use Rattle.profile.proofs.Cases.{bytes-hold, tables-hold, requests-hold, acts-hold, cases-hold, writer-hold, replies-hold, listings-hold, histories-hold}
+use Rattle.profile.proofs.BytesCases.{bytes-hold}
+use Rattle.profile.proofs.TableCases.{tables-hold}
+use Rattle.profile.proofs.RequestCases.{requests-hold}
+use Rattle.profile.proofs.ActCases.{acts-hold}
+use Rattle.profile.proofs.Cases.{cases-hold}
+use Rattle.profile.proofs.WriterCases.{writer-hold}
+use Rattle.profile.proofs.ReplyCases.{replies-hold}
+use Rattle.profile.proofs.ListingCases.{listings-hold}
+use Rattle.profile.proofs.HistoryCases.{histories-hold}
 use Rattle.profile.proofs.SizeCases.{sizes-hold}
 use Rattle.profile.proofs.KeyCases.{keys-hold}
 use Rattle.profile.proofs.Demand3.{demand-3}

@@ -1,0 +1,30 @@
+-- The worked cases of the history hold: computed.
+use mathlib.Core.Path.{refl}
+use Rattle.profile.specs.Bytes.{zeros, over}
+use Rattle.profile.specs.Table.{unpack, image, pack, wellSlot, slotBytes, slotsOf, tableOf, wholeSlots, wellTable}
+use Rattle.profile.specs.Frame.{frame}
+use Rattle.profile.specs.Request.{readRequest}
+use Rattle.profile.specs.Agent.{act, replyFrame, agent}
+use Rattle.profile.specs.HistoryCases
+
+pub histories-hold : HistoryCases.Hold
+unfolding HistoryCases.tellings agent wholeSlots zeros wellTable slotBytes wellSlot slotsOf unpack readRequest over replyFrame frame act tableOf pack image
+histories-hold =
+    record {
+      each = refl;
+      ran = refl;
+      left = refl;
+      tells = refl;
+      goes-on = refl;
+      then-told = refl;
+      blank-at-first = refl;
+      numbered = refl;
+      with-number = refl;
+      with-status = refl;
+      not-asked = refl;
+      no-frame = refl;
+      by-number = refl;
+      under-run = refl;
+      under-ledger = refl;
+      under-slots = refl;
+    }
