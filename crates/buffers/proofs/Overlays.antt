@@ -9,6 +9,7 @@ use lib.Seq.{take-at, length-take-le, drop-drop, drop-at}
 use borrow.Rule.Slice.PartMut.{putMid}
 use Rattle.profile.specs.Bytes.{Bytes, part, over}
 use Rattle.profile.proofs.Strings.{length-part}
+use Rattle.octets.proofs.Parts.{part-all}
 use Rattle.buffers.specs.Over.{overAt}
 
 -- from the start it is a frame at the start of a buffer
@@ -66,3 +67,7 @@ over-copied d s y at from n k h g e f =
     let l : length (part at k d) ≡ n = length-part at k d (omega arith) ∙ e in
     let z : y ≡ part from n s = f ∙ ap (λ (m : ℕ). part from m s) l in
     over-lent d y at k (ap length z ∙ length-part from n s g ∙ sym e) ∙ ap (λ (x : Bytes). overAt at x d) z
+
+-- all of s as a part of it
+pub whole-over : (at : ℕ) (s d d' : Bytes) → d' ≡ overAt at (part 0 (length s) s) d → d' ≡ overAt at s d
+whole-over at s d d' e = rw (part-all s) at e
