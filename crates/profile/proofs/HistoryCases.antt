@@ -1,11 +1,14 @@
 -- The worked cases of the history hold: computed.
-use mathlib.Core.Path.{refl}
+use mathlib.Core.Path.{refl, ap}
+use lib.ListN.{length}
 use Rattle.profile.specs.Bytes.{zeros, over}
 use Rattle.profile.specs.Table.{unpack, image, pack, wellSlot, slotBytes, slotsOf, tableOf, wholeSlots, wellTable}
 use Rattle.profile.specs.Frame.{frame}
 use Rattle.profile.specs.Request.{readRequest}
 use Rattle.profile.specs.Agent.{act, replyFrame, agent}
+use Rattle.profile.specs.CaseBytes.{H1}
 use Rattle.profile.specs.HistoryCases
+use Rattle.profile.proofs.SizeCases.{not-equal, not-over}
 
 pub histories-hold : HistoryCases.Hold
 unfolding HistoryCases.tellings agent wholeSlots zeros wellTable slotBytes wellSlot slotsOf unpack readRequest over replyFrame frame act tableOf pack image
@@ -27,4 +30,7 @@ histories-hold =
       under-run = refl;
       under-ledger = refl;
       under-slots = refl;
+      not-missing = λ a. not-equal 0 1 (λ t. t) (ap length (a .each H1));
+      not-more = λ a. not-equal 1 0 (λ t. t) (ap length (a .each H1));
+      not-twice = λ a. not-over 2 1 (λ t. t) (a .once H1);
     }

@@ -5,12 +5,12 @@ use lib.Dec.{T, eqb, leb, eqb-refl, leb→le, le→leb}
 use Rattle.profile.specs.Slot.{RightFits}
 use Rattle.profile.specs.SizeCases.{least, most, Hold}
 
--- a number is none that differs from it, and is at most none that is less: computed
-differs : (m n : ℕ) → (T (eqb m n) → ⊥) → m ≡ n → ⊥
-differs m n no-test e = no-test (rw e (eqb-refl n))
+-- two numbers differ, and one is not at most the other: computed
+pub not-equal : (m n : ℕ) → (T (eqb m n) → ⊥) → m ≡ n → ⊥
+not-equal m n no-test e = no-test (rw e (eqb-refl n))
 
-over : (m n : ℕ) → (T (leb m n) → ⊥) → m ≤ n → ⊥
-over m n no-test h = no-test (le→leb m n h)
+pub not-over : (m n : ℕ) → (T (leb m n) → ⊥) → m ≤ n → ⊥
+not-over m n no-test h = no-test (le→leb m n h)
 
 least-right : RightFits least
 least-right =
@@ -37,27 +37,27 @@ sizes-hold =
     record {
       least-fits = least-right;
       most-fits = most-right;
-      key-15 = λ f. differs 15 16 (λ t. t) (f .room .key-16);
-      key-17 = λ f. differs 17 16 (λ t. t) (f .room .key-16);
-      hashes-9 = λ f. over 9 8 (λ t. t) (f .room .hashed .few);
-      hash-19 = λ f. differs 19 20 (λ t. t) (f .room .hashed .each .1 .0);
-      hash-21 = λ f. differs 21 20 (λ t. t) (f .room .hashed .each .1 .0);
-      payload-0 = λ f. over 1 0 (λ t. t) (f .some-payload);
-      payload-4097 = λ f. over 4097 4096 (λ t. t) (f .room .short);
+      key-15 = λ f. not-equal 15 16 (λ t. t) (f .room .key-16);
+      key-17 = λ f. not-equal 17 16 (λ t. t) (f .room .key-16);
+      hashes-9 = λ f. not-over 9 8 (λ t. t) (f .room .hashed .few);
+      hash-19 = λ f. not-equal 19 20 (λ t. t) (f .room .hashed .each .1 .0);
+      hash-21 = λ f. not-equal 21 20 (λ t. t) (f .room .hashed .each .1 .0);
+      payload-0 = λ f. not-over 1 0 (λ t. t) (f .some-payload);
+      payload-4097 = λ f. not-over 4097 4096 (λ t. t) (f .room .short);
       empty-fits = tt;
       room-1 = (refl, (leb→le 1 1 tt, leb→le 1 4096 tt));
       room-4096 = (refl, (leb→le 1 4096 tt, leb→le 4096 4096 tt));
-      room-0 = λ f. over 1 0 (λ t. t) (f .1 .0);
-      room-4097 = λ f. over 4097 4096 (λ t. t) (f .1 .1);
+      room-0 = λ f. not-over 1 0 (λ t. t) (f .1 .0);
+      room-4097 = λ f. not-over 4097 4096 (λ t. t) (f .1 .1);
       enabled-fits = (refl, least-right);
       disabled-fits = (refl, most-right);
-      enabled-0 = λ f. over 1 0 (λ t. t) (f .1 .some-payload);
-      disabled-0 = λ f. over 1 0 (λ t. t) (f .1 .some-payload);
-      handle-9 = λ f. differs 9 10 (λ t. t) (f .0);
-      handle-11 = λ f. differs 11 10 (λ t. t) (f .0);
+      enabled-0 = λ f. not-over 1 0 (λ t. t) (f .1 .some-payload);
+      disabled-0 = λ f. not-over 1 0 (λ t. t) (f .1 .some-payload);
+      handle-9 = λ f. not-equal 9 10 (λ t. t) (f .0);
+      handle-11 = λ f. not-equal 11 10 (λ t. t) (f .0);
       table-fits = (tt, ((refl, (leb→le 1 1 tt, leb→le 1 4096 tt)), ((refl, least-right), tt)));
-      first-bad = λ f. over 1 0 (λ t. t) (f .0 .1 .0);
-      last-bad = λ f. over 1 0 (λ t. t) (f .1 .0 .1 .0);
+      first-bad = λ f. not-over 1 0 (λ t. t) (f .0 .1 .0);
+      last-bad = λ f. not-over 1 0 (λ t. t) (f .1 .0 .1 .0);
       setup-fits = refl;
       install-fits = (refl, most-right);
       retrieve-fits = (refl, refl);
@@ -67,17 +67,17 @@ sizes-hold =
       cancel-fits = refl;
       list-fits = most-right .room .hashed;
       info-fits = refl;
-      setup-9 = λ f. differs 9 10 (λ t. t) f;
-      install-9 = λ f. differs 9 10 (λ t. t) (f .0);
-      install-0 = λ f. over 1 0 (λ t. t) (f .1 .some-payload);
-      retrieve-9 = λ f. differs 9 10 (λ t. t) (f .0);
-      retrieve-11 = λ f. differs 11 10 (λ t. t) (f .1);
-      query-9 = λ f. differs 9 10 (λ t. t) (f .0);
-      query-11 = λ f. differs 11 10 (λ t. t) (f .1);
-      enable-9 = λ f. differs 9 10 (λ t. t) (f .0);
-      remove-9 = λ f. differs 9 10 (λ t. t) f;
-      cancel-11 = λ f. differs 11 10 (λ t. t) f;
-      list-9 = λ f. over 9 8 (λ t. t) (f .few);
-      list-19 = λ f. differs 19 20 (λ t. t) (f .each .1 .0);
-      info-11 = λ f. differs 11 10 (λ t. t) f;
+      setup-9 = λ f. not-equal 9 10 (λ t. t) f;
+      install-9 = λ f. not-equal 9 10 (λ t. t) (f .0);
+      install-0 = λ f. not-over 1 0 (λ t. t) (f .1 .some-payload);
+      retrieve-9 = λ f. not-equal 9 10 (λ t. t) (f .0);
+      retrieve-11 = λ f. not-equal 11 10 (λ t. t) (f .1);
+      query-9 = λ f. not-equal 9 10 (λ t. t) (f .0);
+      query-11 = λ f. not-equal 11 10 (λ t. t) (f .1);
+      enable-9 = λ f. not-equal 9 10 (λ t. t) (f .0);
+      remove-9 = λ f. not-equal 9 10 (λ t. t) f;
+      cancel-11 = λ f. not-equal 11 10 (λ t. t) f;
+      list-9 = λ f. not-over 9 8 (λ t. t) (f .few);
+      list-19 = λ f. not-equal 19 20 (λ t. t) (f .each .1 .0);
+      info-11 = λ f. not-equal 11 10 (λ t. t) f;
     }

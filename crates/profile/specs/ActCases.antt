@@ -9,7 +9,7 @@ use Rattle.profile.specs.Slot.{Right, recount, reserved, enabled, disabl
 use Rattle.profile.specs.Frame.{Refusal, parameter, notFound, duplicate, unexpected, noSpace, twoRecords}
 use Rattle.profile.specs.Request.{Request, setup, install, retrieve, query, enable, remove, cancel, list, info}
 use Rattle.profile.specs.Agent.{Given, nothing, theRight, theKey, handles, counted, Answer, deny, done, act, lowestEmpty, firstOf}
-use Rattle.profile.specs.CaseBytes.{hex, H1, H2, H3, H4, H1-last, K, L, A, B, A-last, A-first, eight, five}
+use Rattle.profile.specs.CaseBytes.{hex, counting, H1, H2, H3, H4, H1-last, K, L, A, B, A-last, A-first, eight, five}
 use Rattle.profile.specs.CaseTables.{fifteenHandles}
 
 -- the slots before, a request, and the answer: a refusal, or what is given and the slots afterwards
@@ -24,7 +24,7 @@ denies t q r = record { slots = t; request = q; answer = deny r }
 abbrev pub gives : List Slot → Request → Given → List Slot → Case
 gives t q g u = record { slots = t; request = q; answer = done g u }
 
--- ---- rights: with no hash, with A and B, with B alone; six bytes of payload
+-- ---- rights: with no hash, with A and B, with B alone, with eight hashes; six bytes of payload
 abbrev pub plain : Right
 plain = record { key = K; count = 7; hashes = []; payload = five }
 
@@ -33,6 +33,9 @@ both = record { key = L; count = 258; hashes = A ∷ B ∷ []; payload = hex "BC
 
 abbrev pub onlyB : Right
 onlyB = record { key = L; count = 258; hashes = B ∷ []; payload = hex "BC" }
+
+abbrev pub full8 : Right
+full8 = record { key = K; count = 0; hashes = pieces 20 8 eight; payload = five }
 
 abbrev pub six : Right
 six = record { key = K; count = 7; hashes = []; payload = hex "A1 A2 A3 A4 A5 A6" }
@@ -176,7 +179,8 @@ listings =
     ∷ lists 10 (A-first ∷ []) false []
     ∷ lists 1 (A-last ∷ []) false []
     ∷ lists 0 (pieces 20 8 eight) false []
-    ∷ gives (taken H1 (enabled (record { key = K; count = 0; hashes = pieces 20 8 eight; payload = five })) ∷ []) (list 0 (A ∷ (0x9C ∷ 0x9D ∷ 0x9E ∷ 0x9F ∷ 0xA0 ∷ 0xA1 ∷ 0xA2 ∷ 0xA3 ∷ 0xA4 ∷ 0xA5 ∷ 0xA6 ∷ 0xA7 ∷ 0xA8 ∷ 0xA9 ∷ 0xAA ∷ 0xAB ∷ 0xAC ∷ 0xAD ∷ 0xAE ∷ 0xAF ∷ []) ∷ [])) (handles false (H1 ∷ [])) (taken H1 (enabled (record { key = K; count = 0; hashes = pieces 20 8 eight; payload = five })) ∷ [])
+    -- the last of eight hashes
+    ∷ gives (taken H1 (enabled full8) ∷ []) (list 0 (A ∷ counting 0x9C 20 ∷ [])) (handles false (H1 ∷ [])) (taken H1 (enabled full8) ∷ [])
     -- "Limit 0 is none; otherwise the first whole handles that fit in limit bytes. More is 1 exactly if a handle was left off."
     ∷ lists 1 [] true []
     ∷ lists 9 [] true []

@@ -10,7 +10,7 @@ use Rattle.profile.specs.Frame.{parameter}
 use Rattle.profile.specs.Request.{Request, setup, install, retrieve, query, enable, remove, cancel, list, info, asks, refused, noFrame}
 use Rattle.profile.specs.Agent.{Call}
 use Rattle.profile.specs.History.{open-setup, forUse, lent, gone, Ledger, blankLedger, rightNumber, Exchange, told, history}
-use Rattle.profile.specs.Run.{exchange, exchanges, blankTable, tableAfterAll, ledgerThen, underSlots, underLedger}
+use Rattle.profile.specs.Run.{exchange, exchanges, blankTable, tableAfterAll, ledgerThen, underSlots, underLedger, Agrees}
 use Rattle.profile.specs.CaseBytes.{hex, H1, H2, H3, H4, H1-last, K, L, A, five}
 use Rattle.profile.specs.CaseTables.{blank, after9}
 
@@ -141,3 +141,7 @@ pub record Hold : Type 0 where
   pub under-ledger : map (λ h. underLedger h before) (H1 ∷ H2 ∷ H3 ∷ H4 ∷ H1-last ∷ []) ≡ (enabled plain ∷ []) ∷ (disabled other ∷ []) ∷ (reserved 5 ∷ []) ∷ (reserved 9 ∷ []) ∷ [] ∷ []
   pub under-slots : map (λ h. underSlots h (taken H1 (enabled plain) ∷ empty ∷ taken H2 (disabled other) ∷ taken H3 (reserved 5) ∷ taken H1 (reserved 9) ∷ [])) (H1 ∷ H2 ∷ H3 ∷ H1-last ∷ [])
       ≡ (enabled plain ∷ reserved 9 ∷ []) ∷ (disabled other ∷ []) ∷ (reserved 5 ∷ []) ∷ [] ∷ []
+  -- "the records agree exactly": not where a record is missing, and not where two stand under one handle
+  pub not-missing : ¬ Agrees (record { setups = []; rights = forUse H1 plain ∷ [] }) (empty ∷ [])
+  pub not-more : ¬ Agrees blankLedger (taken H1 (reserved 5) ∷ [])
+  pub not-twice : ¬ Agrees (record { setups = []; rights = forUse H1 plain ∷ forUse H1 plain ∷ [] }) (taken H1 (enabled plain) ∷ taken H1 (enabled plain) ∷ [])

@@ -6,7 +6,7 @@ use Prim.Native.Nat.{ℕ}
 use mathlib.Core.Bool.{Bool, true, false}
 use lib.ListN.{take, replicate}
 use Rattle.profile.specs.Bytes.{Bytes, joined}
-use Rattle.profile.specs.Frame.{Kind, Setup, Install, Retrieve, Query, Enable, Remove, Cancel, List', Info, versionHolds, kindNumber, Refusal, integrity, parameter, unsupported}
+use Rattle.profile.specs.Frame.{Kind, Setup, Install, Retrieve, Query, Enable, Remove, Cancel, List', Info, versionHolds, kindNumber, hashCountAt18, Refusal, integrity, parameter, unsupported}
 use Rattle.profile.specs.Request.{Request, setup, install, retrieve, query, enable, remove, cancel, list, info, Read, asks, refused, noFrame, verdict, zeroBits, bodyFits, readRequest, writeRequest}
 use Rattle.profile.specs.CaseBytes.{hex, counting, sized}
 
@@ -253,5 +253,7 @@ pub record Hold : Type 0 where
   -- "version 3 bits (1), kind 5 bits"
   pub versions : map versionHolds (hex "00" ∷ hex "1F" ∷ hex "20" ∷ hex "3F" ∷ hex "40" ∷ hex "61" ∷ []) ≡ false ∷ false ∷ true ∷ true ∷ false ∷ false ∷ []
   pub kind-bits : map kindNumber (hex "00" ∷ hex "1F" ∷ hex "E0" ∷ hex "30" ∷ hex "2A" ∷ []) ≡ 0 ∷ 31 ∷ 0 ∷ 16 ∷ 10 ∷ []
+  -- "hash count 4 bits, 4 zero bits", behind key and count
+  pub hash-counts : map (λ b. hashCountAt18 (replicate 18 0x00 ++ (b ∷ []))) (0x0F ∷ 0x10 ∷ 0x8F ∷ 0xFF ∷ []) ≡ 0 ∷ 1 ∷ 8 ∷ 15 ∷ []
   pub read : map (λ c. readRequest (c .0)) cases ≡ map (λ c. c .1) cases
   pub write : joined (map (λ c. written (c .1)) requests) ≡ map (λ c. c .0) requests
