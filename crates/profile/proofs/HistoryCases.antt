@@ -8,7 +8,7 @@ use Rattle.profile.specs.Request.{readRequest}
 use Rattle.profile.specs.Agent.{act, replyFrame, agent}
 use Rattle.profile.specs.CaseBytes.{H1}
 use Rattle.profile.specs.HistoryCases
-use Rattle.profile.proofs.SizeCases.{not-equal, not-over}
+use Rattle.profile.proofs.Logic.{not-equal, not-over}
 
 pub histories-hold : HistoryCases.Hold
 unfolding HistoryCases.tellings agent wholeSlots zeros wellTable slotBytes wellSlot slotsOf unpack readRequest over replyFrame frame act tableOf pack image

@@ -5,10 +5,11 @@ use mathlib.Core.Logic.{inl, inr}
 use mathlib.Core.List.{List, [], _∷_, _++_, cons≢nil}
 use mathlib.Core.Option.{Option, none, some, Option·some-injective}
 use mathlib.Core.Bool.{Bool, true, false, not, _||_, true≢false, false≢true}
+use native.Mathlib.Nat.{suc-inj}
 use native.Mathlib.Omega.{arith}
 use lib.Dec.{eqb, ltb, lt→ltb}
-use lib.ListN.{length, getElem?, take, drop, length-take, length-drop, take-append-drop}
-use lib.Seq.{drop-length}
+use lib.ListN.{length, getElem?, take, drop, set, length-append, length-take, length-drop, take-append-drop}
+use lib.Seq.{drop-length, take-at}
 use Rattle.profile.specs.Bytes.{Bytes, if_then_else_, same, any, In, over}
 use Rattle.profile.specs.Slot.{Right, Entry, reserved, enabled, disabled, Slot, empty, taken, inUse, distinct}
 use Rattle.profile.specs.Table.{slotsOf}
@@ -16,7 +17,7 @@ use Rattle.profile.specs.Frame.{kindNumber, frame}
 use Rattle.profile.specs.Request.{setup, list, Read, asks, refused, noFrame, readRequest}
 use Rattle.profile.specs.Agent.{Given, handles, Found, absent, one, next, find, asked, listed, fitting, firstOf, Answer, deny, done, act, lowestEmpty, replyFrame, Call, refuse, replied, obey, agent}
 use Rattle.profile.specs.Laws.{Apart, Refuses, FoundIs, SetsLowest, AskedFor, InSlotOrder, no-slot, asked-for, not-asked, is-lent, is-reserved, is-empty, Shown, WithinLimit, ListsExactly}
-use Rattle.profile.proofs.Logic.{T→eq, and-parts, or-parts, not-true, same-refl, same-eq, split, ltb-false, eqb-eq, positive}
+use Rattle.profile.proofs.Logic.{T→eq, both, and-parts, or-parts, not-true, same-refl, same-eq, split, ltb-false, ltb-lt, ltb-over, eqb-eq, positive}
 use Rattle.profile.proofs.Numbers.{by-agent}
 use Rattle.profile.proofs.Steps.{acts}
 
@@ -88,6 +89,33 @@ apart (taken k x ∷ t) d zero (suc j) h e f p q = absurd (true≢false (sym (in
 apart (taken k x ∷ t) d (suc i) zero h e f p q = absurd (true≢false (sym (in-use-at h t i e p) ∙ rw (same-handle q) at (not-true (inUse k t) (and-parts (not (inUse k t)) (distinct t) d .0))))
 apart (taken k x ∷ t) d (suc i) (suc j) h e f p q = ap suc (apart t (and-parts (not (inUse k t)) (distinct t) d .1) i j h e f p q)
 
+in-use-where : (h : Bytes) (t : List Slot) → inUse h t ≡ true → (i : ℕ) × (e : Entry) × (getElem? t i ≡ some (taken h e))
+in-use-where h [] u = absurd (false≢true u)
+in-use-where h (empty ∷ t) u =
+    let r = in-use-where h t u in
+    (suc (r .0), r .1, r .2)
+in-use-where h (taken k x ∷ t) u = go (in-use-where h t)
+  where
+    go : (inUse h t ≡ true → (i : ℕ) × (e : Entry) × (getElem? t i ≡ some (taken h e))) → (i : ℕ) × (e : Entry) × (getElem? (taken k x ∷ t) i ≡ some (taken h e))
+    go ih = split h k
+        (λ p. (0, x, ap {B = Option Slot} (λ (y : Bytes). some (taken y x)) (sym p)))
+        (λ q. let r = ih (rw q at u) in (suc (r .0), r .1, r .2))
+
+-- and handles that stand apart are distinct
+pub apart-distinct : (t : List Slot) → Apart t → distinct t ≡ true
+apart-distinct [] a = refl
+apart-distinct (s ∷ t) a = go s (apart-distinct t (λ i j h e f p q. suc-inj (a (suc i) (suc j) h e f p q))) a
+  where
+    go : (s : Slot) → distinct t ≡ true → Apart (s ∷ t) → distinct (s ∷ t) ≡ true
+    go empty d a = d
+    go (taken k x) d a = both (free (inUse k t) refl) d
+      where
+        free : (b : Bool) → inUse k t ≡ b → not b ≡ true
+        free true u =
+            let w = in-use-where k t u in
+            absurd (omega (arith, a 0 (suc (w .0)) k x (w .1) refl (w .2)))
+        free false u = refl
+
 -- ---- refusals
 module _ (table : Bytes) (c : Call) where
   refused-number : (n : ℕ) → eqb n 0 ≡ false → Refuses table c (refuse n table (c .buffer))
@@ -136,6 +164,17 @@ lowest-there : (t : List Slot) → lowestEmpty t < length t → getElem? t (lowe
 lowest-there [] h = absurd (omega (arith, h))
 lowest-there (empty ∷ t) h = refl
 lowest-there (taken k e ∷ t) h = lowest-there t (omega (arith, h))
+
+lowest-only : (t : List Slot) (place : ℕ) → getElem? t place ≡ some empty → ((i : ℕ) → i < place → getElem? t i ≡ some empty → ⊥) → place ≡ lowestEmpty t
+lowest-only [] place p n = absurd (not-there p)
+lowest-only (empty ∷ t) zero p n = refl
+lowest-only (empty ∷ t) (suc place) p n = absurd (n 0 (omega arith) refl)
+lowest-only (taken k e ∷ t) zero p n = absurd (empty-not-taken (sym p))
+lowest-only (taken k e ∷ t) (suc place) p n = ap suc (lowest-only t place p (λ i h. n (suc i) (omega (arith, h))))
+
+-- no other slot meets the law
+pub sets-only : (t : List Slot) (h : Bytes) (n : ℕ) (u : List Slot) → SetsLowest t h n u → u ≡ set t (lowestEmpty t) (taken h (reserved n))
+sets-only t h n u s = s .after ∙ ap (λ (i : ℕ). set t i (taken h (reserved n))) (lowest-only t (s .place) (s .is-empty) (s .none-lower))
 
 pub sets-lowest : (t : List Slot) (h : Bytes) (n : ℕ) (g : Given) (u : List Slot) → act (lowestEmpty t) t (setup h n) ≡ done g u → SetsLowest t h n u
 sets-lowest t h n g u e =
@@ -190,6 +229,23 @@ ordered q (taken h (enabled r) ∷ t) = go (asked q r) refl (ordered q t)
     go : (b : Bool) → asked q r ≡ b → InSlotOrder q t (listed q t) → InSlotOrder q (taken h (enabled r) ∷ t) ((if b then h ∷ [] else []) ++ listed q t)
     go true p o = asked-for (test-yes q r p) o
     go false p o = not-asked (test-no q r p) o
+
+-- no other list meets the law
+ordered-only : (q : List Bytes) {t : List Slot} {hs : List Bytes} → InSlotOrder q t hs → hs ≡ listed q t
+ordered-only q no-slot = refl
+ordered-only q (asked-for {h = h} {r = r} {t = t} {hs = hs} a o) = go (asked q r) refl (ordered-only q o)
+  where
+    go : (b : Bool) → asked q r ≡ b → hs ≡ listed q t → h ∷ hs ≡ (if b then h ∷ [] else []) ++ listed q t
+    go true p e = ap {B = List Bytes} (λ (x : List Bytes). h ∷ x) e
+    go false p e = absurd (test-no q r p a)
+ordered-only q (not-asked {h = h} {r = r} {t = t} {hs = hs} n o) = go (asked q r) refl (ordered-only q o)
+  where
+    go : (b : Bool) → asked q r ≡ b → hs ≡ listed q t → hs ≡ (if b then h ∷ [] else []) ++ listed q t
+    go true p e = absurd (n (test-yes q r p))
+    go false p e = e
+ordered-only q (is-lent o) = ordered-only q o
+ordered-only q (is-reserved o) = ordered-only q o
+ordered-only q (is-empty o) = ordered-only q o
 
 -- ---- and its handles: those of enabled records asked for
 module _ {q : List Bytes} where
@@ -270,6 +326,68 @@ within limit hs =
 
     size : length (take n hs) ≡ n
     size = length-take n hs ∙ omega (arith, f .most)
+
+-- no other number of handles meets the law
+one-number : (limit n a b : ℕ) → Fits limit n a → Fits limit n b → a ≤ b
+one-number limit n a b f g = go (ltb b n) refl
+  where
+    go : (c : Bool) → ltb b n ≡ c → a ≤ b
+    go true e = room (eqb limit 0) refl
+      where
+        room : (z : Bool) → eqb limit 0 ≡ z → a ≤ b
+        room true y = absurd (omega (arith, ltb-lt b n e, g .none-limits (eqb-eq limit 0 y)))
+        room false y = omega (arith, f .fit (positive limit y), g .no-more (ltb-lt b n e))
+    go false e = omega (arith, ltb-over b n e, f .most)
+
+module _ (limit : ℕ) (hs : List Bytes) (g : Given) (w : WithinLimit limit hs g) where
+  sizes : length (w .first) + length (w .left-off) ≡ length hs
+  sizes = sym (length-append (w .first) (w .left-off)) ∙ ap (λ (x : List Bytes). length x) (sym (w .parts))
+
+  none-left : length hs ≤ length (w .first) → w .left-off ≡ []
+  none-left h = go (w .left-off) (omega (arith, sizes, h))
+    where
+      go : (xs : List Bytes) → length xs ≤ 0 → xs ≡ []
+      go [] z = refl
+      go (x ∷ xs) z = absurd (omega (arith, z))
+
+  their-fits : Fits limit (length hs) (length (w .first))
+  their-fits =
+      record {
+        most = omega (arith, sizes);
+        none-limits = λ z. omega (arith, sizes, ap (λ (x : List Bytes). length x) (w .no-limit z));
+        fit = w .fit;
+        no-more = λ h. w .no-more-fit (omega (arith, sizes, h));
+      }
+
+  as-many : length (w .first) ≡ fitting limit (length hs)
+  as-many =
+      omega (
+        arith,
+        one-number limit (length hs) (length (w .first)) (fitting limit (length hs)) their-fits (fitting-fits limit (length hs)),
+        one-number limit (length hs) (fitting limit (length hs)) (length (w .first)) (fitting-fits limit (length hs)) their-fits,
+      )
+
+  more-is : w .more ≡ ltb (length (w .first)) (length hs)
+  more-is = go (ltb (length (w .first)) (length hs)) refl
+    where
+      go : (b : Bool) → ltb (length (w .first)) (length hs) ≡ b → w .more ≡ b
+      go true e = w .says-more (omega (arith, sizes, ltb-lt (length (w .first)) (length hs) e))
+      go false e = w .says-all (none-left (ltb-over (length (w .first)) (length hs) e))
+
+  within-only : g ≡ firstOf limit hs
+  within-only =
+      w .gives
+      ∙ rw (more-is, as-many) (ap {B = Given} (λ (x : List Bytes). handles (ltb (fitting limit (length hs)) (length hs)) x) first-is)
+    where
+      first-is : w .first ≡ take (fitting limit (length hs)) hs
+      first-is = rw (← as-many) (sym (take-at (w .first) (w .left-off) (length (w .first)) refl) ∙ ap (take (length (w .first))) (sym (w .parts)))
+
+-- no other answer meets the laws
+pub lists-only : (place : ℕ) (t : List Slot) (limit : ℕ) (q : List Bytes) (g : Given) → ListsExactly limit q t g → act place t (list limit q) ≡ done g t
+unfolding act
+lists-only place t limit q g w =
+    ap {B = Answer} (λ (x : Given). done x t)
+    (ap (firstOf limit) (sym (ordered-only q (w .ordered))) ∙ sym (within-only limit (w .all) g (w .limited)))
 
 pub lists-exactly : (place : ℕ) (t : List Slot) (limit : ℕ) (q : List Bytes) → (g : Given) × (act place t (list limit q) ≡ done g t) × ListsExactly limit q t g
 unfolding act

@@ -1,16 +1,9 @@
 -- The worked cases of sizes hold.
-use Prim.Native.Nat.{ℕ, _≤_}
-use mathlib.Core.Path.{_≡_, refl}
-use lib.Dec.{T, eqb, leb, eqb-refl, leb→le, le→leb}
+use mathlib.Core.Path.{refl}
+use lib.Dec.{leb→le}
 use Rattle.profile.specs.Slot.{RightFits}
 use Rattle.profile.specs.SizeCases.{least, most, Hold}
-
--- two numbers differ, and one is not at most the other: computed
-pub not-equal : (m n : ℕ) → (T (eqb m n) → ⊥) → m ≡ n → ⊥
-not-equal m n no-test e = no-test (rw e (eqb-refl n))
-
-pub not-over : (m n : ℕ) → (T (leb m n) → ⊥) → m ≤ n → ⊥
-not-over m n no-test h = no-test (le→leb m n h)
+use Rattle.profile.proofs.Logic.{not-equal, not-over}
 
 least-right : RightFits least
 least-right =

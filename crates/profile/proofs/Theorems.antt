@@ -19,7 +19,7 @@ use Rattle.profile.proofs.WrittenAgain.{written-again}
 use Rattle.profile.proofs.Replies.{replies-read}
 use Rattle.profile.proofs.Statuses.{never-8}
 use Rattle.profile.proofs.AnyTable.{count-under, stays-well}
-use Rattle.profile.proofs.Laws.{apart, refuses, found-is, sets-lowest, lists-exactly}
+use Rattle.profile.proofs.Laws.{apart, apart-distinct, refuses, found-is, sets-lowest, sets-only, lists-exactly, lists-only}
 use Rattle.profile.proofs.BytesCases.{bytes-hold}
 use Rattle.profile.proofs.TableCases.{tables-hold}
 use Rattle.profile.proofs.RequestCases.{requests-hold}
@@ -30,7 +30,7 @@ use Rattle.profile.proofs.ReplyCases.{replies-hold}
 use Rattle.profile.proofs.ListingCases.{listings-hold}
 use Rattle.profile.proofs.HistoryCases.{histories-hold}
 use Rattle.profile.proofs.SizeCases.{sizes-hold}
-use Rattle.profile.proofs.KeyCases.{keys-hold}
+use Rattle.profile.proofs.DemandCases.{demands-hold}
 use Rattle.profile.proofs.Demand3.{demand-3}
 
 packs : (t : List Slot) → TableFits t → distinct t ≡ true → 1 ≤ length t → length t ≤ 15 → Packs t
@@ -49,7 +49,7 @@ theorems =
       pack-unpack = pack-unpack;
       unpacks = λ table y whole well. record { fit = table-fits table whole well; apart = table-distinct table whole well; again = table-slots table y whole well };
       packs = packs;
-      apart = apart;
+      apart = λ t. (apart t, apart-distinct t);
       read-fits = λ f q e. read-fits f q (rw e at (reads f));
       read-write = read-write;
       written-reads = written-reads;
@@ -60,7 +60,9 @@ theorems =
       stays-well = λ table y whole well c. let s = stays-well table y whole well c in record { whole = s .0; well = s .1 };
       found-is = found-is;
       sets-lowest = sets-lowest;
+      sets-only = sets-only;
       lists-exactly = lists-exactly;
+      lists-only = lists-only;
       bytes-hold = bytes-hold;
       sizes-hold = sizes-hold;
       tables-hold = tables-hold;
@@ -71,6 +73,6 @@ theorems =
       replies-hold = replies-hold;
       listings-hold = listings-hold;
       histories-hold = histories-hold;
-      keys-hold = keys-hold;
+      demands-hold = demands-hold;
       demand-3 = demand-3;
     }

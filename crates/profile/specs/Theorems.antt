@@ -2,13 +2,14 @@
 -- crates/profile/proofs/Theorems.antt; to believe a theorem, read it here.
 use Prim.Native.Nat.{ℕ, _≤_}
 use mathlib.Core.Path.{_≡_}
+use mathlib.Core.Logic.{_↔_}
 use mathlib.Core.List.{List}
 use mathlib.Core.Option.{some}
 use mathlib.Core.Bool.{true, false}
 use lib.Dec.{T, eqb, ltb}
-use lib.ListN.{length}
+use lib.ListN.{length, set}
 use Rattle.profile.specs.Bytes.{Bytes, Bytes256, over, all}
-use Rattle.profile.specs.Slot.{Slot, distinct, SlotFits, TableFits}
+use Rattle.profile.specs.Slot.{reserved, Slot, taken, distinct, SlotFits, TableFits}
 use Rattle.profile.specs.Table.{slotSize, unpack, pack, wellSlot, slotsOf, tableOf, wholeSlots, wellTable}
 use Rattle.profile.specs.Frame.{Kind, kindOf, kindNumber, statusIn}
 use Rattle.profile.specs.Request.{Request, setup, list, asks, readRequest, writeRequest, withVerdict, RequestFits}
@@ -24,7 +25,7 @@ use Rattle.profile.specs.WriterCases
 use Rattle.profile.specs.ReplyCases
 use Rattle.profile.specs.ListingCases
 use Rattle.profile.specs.HistoryCases
-use Rattle.profile.specs.KeyCases
+use Rattle.profile.specs.DemandCases
 use Rattle.profile.specs.Demand3.{Demand3}
 use Rattle.profile.specs.Laws.{Apart, Refuses, FoundIs, SetsLowest, ListsExactly}
 
@@ -77,7 +78,7 @@ pub record Theorems : Type 0 where
   pub pack-unpack : (s : Bytes) → length s ≡ slotSize → Bytes256 s → wellSlot s ≡ true → pack (unpack s) ≡ s
   pub unpacks : (table : Bytes) → Bytes256 table → wholeSlots table ≡ true → wellTable table ≡ true → Unpacks table
   pub packs : (t : List Slot) → TableFits t → distinct t ≡ true → 1 ≤ length t → length t ≤ 15 → Packs t
-  pub apart : (t : List Slot) → distinct t ≡ true → Apart t
+  pub apart : (t : List Slot) → (distinct t ≡ true) ↔ Apart t
   -- "Frames": "A written request reads back to its fields. A frame that reads as a request is written again to the same bytes, but for a verdict of 0"
   pub read-fits : (f : Bytes) (q : Request) → readRequest f ≡ asks q → RequestFits q
   pub read-write : (q : Request) → RequestFits q → readRequest (writeRequest q) ≡ asks q
@@ -89,10 +90,12 @@ pub record Theorems : Type 0 where
   pub refuses : (table : Bytes) (c : Call) → Refuses table c (agent table c)
   pub never-8 : (table : Bytes) (c : Call) → eqb (agent table c .number) 0 ≡ true → eqb (statusIn (agent table c .reply)) 8 ≡ false
   pub stays-well : (table : Bytes) → Bytes256 table → wholeSlots table ≡ true → wellTable table ≡ true → (c : Call) → Stays (agent table c .table)
-  -- the slot found under a handle, the slot that a setup takes, the handles listed
+  -- the slot found under a handle, the slot that a setup takes, the handles listed; no other slot and no other list meets these laws
   pub found-is : (h : Bytes) (t : List Slot) → FoundIs h t (find h t)
   pub sets-lowest : (t : List Slot) (h : Bytes) (n : ℕ) (g : Given) (u : List Slot) → act (lowestEmpty t) t (setup h n) ≡ done g u → SetsLowest t h n u
+  pub sets-only : (t : List Slot) (h : Bytes) (n : ℕ) (u : List Slot) → SetsLowest t h n u → u ≡ set t (lowestEmpty t) (taken h (reserved n))
   pub lists-exactly : (place : ℕ) (t : List Slot) (limit : ℕ) (q : List Bytes) → (g : Given) × (act place t (list limit q) ≡ done g t) × ListsExactly limit q t g
+  pub lists-only : (place : ℕ) (t : List Slot) (limit : ℕ) (q : List Bytes) (g : Given) → ListsExactly limit q t g → act place t (list limit q) ≡ done g t
   -- "Examples", and every rule in worked cases, table by table
   pub bytes-hold : BytesCases.Hold
   pub sizes-hold : SizeCases.Hold
@@ -104,6 +107,6 @@ pub record Theorems : Type 0 where
   pub replies-hold : ReplyCases.Hold
   pub listings-hold : ListingCases.Hold
   pub histories-hold : HistoryCases.Hold
-  pub keys-hold : KeyCases.Hold
+  pub demands-hold : DemandCases.Hold
   -- demand 3, of every table of 1 to 15 slots and every sequence of calls
   pub demand-3 : (n : ℕ) → 1 ≤ n → n ≤ 15 → (cs : List Call) → Demand3 n cs

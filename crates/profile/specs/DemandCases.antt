@@ -1,17 +1,19 @@
--- The words of demand 3 in worked cases: calls by which a key goes out, returns, installations, and tables that differ in keys alone.
+-- The words of demand 3 in worked cases, with what they exclude: records that agree, what rights hold, calls by which a key goes out, returns, and tables
+-- that differ in keys alone.
 use mathlib.Core.Path.{_≡_}
 use mathlib.Core.List.{List, [], _∷_, _++_, map}
 use mathlib.Core.Bool.{true, false}
 use lib.ListN.{take, drop, replicate}
 use Rattle.profile.specs.Bytes.{Bytes}
+use Rattle.profile.specs.Slot.{reserved, enabled, empty, taken}
 use Rattle.profile.specs.Request.{install, query, retrieve, enable, remove}
 use Rattle.profile.specs.Agent.{Call}
-use Rattle.profile.specs.History.{forUse, lent, gone, Exchange}
-use Rattle.profile.specs.CaseBytes.{hex, H1, H2, H3, H4, L}
+use Rattle.profile.specs.History.{Owned, forUse, lent, gone, Ledger, blankLedger, Exchange}
+use Rattle.profile.specs.CaseBytes.{hex, changed, H1, H2, H3, H4, K, L, A, five}
 use Rattle.profile.specs.CaseTables.{blank, after7, after9, hashed2, waiting}
 use Rattle.profile.specs.HistoryCases.{plain, other, asking}
-use Rattle.profile.specs.Contents.{installations, lastCount, held}
-use Rattle.profile.specs.Demand3.{KeyOut, returned, AlikeButKeys}
+use Rattle.profile.specs.Contents.{installations, lastCount, held, Contents}
+use Rattle.profile.specs.Demand3.{Records, KeyOut, returned, AlikeButKeys}
 
 -- a call with a frame
 abbrev pub calling : Bytes → Call
@@ -20,6 +22,10 @@ calling f = record { request = f; buffer = replicate 4279 0xAA }
 -- a slot with another key, its bytes 11 to 26
 abbrev pub rekeyed : Bytes → Bytes → Bytes
 rekeyed key s = take 11 s ++ key ++ drop 27 s
+
+-- a ledger with these rights and no setup
+abbrev pub ledgerOf : List Owned → Ledger
+ledgerOf rights = record { setups = []; rights = rights }
 
 -- ---- exchanges: two rights with equal bytes; the first is lent, comes back with the count 3, is lent again and comes back with 2; the second is removed;
 -- among them requests that are refused, and a return that is sent again
@@ -41,9 +47,25 @@ exchanged = asking (install H1 plain) 0 ∷ asking (query H1 H2) 0 ∷ later
 
 -- ---- these are what the definitions say
 pub record Hold : Type 0 where
+  -- records agree: not one that is missing, that no right or setup has, that is of another place, or that stands twice
+  pub missing : ¬ Records (ledgerOf (forUse H1 plain ∷ [])) (empty ∷ [])
+  pub untold : ¬ Records blankLedger (taken H1 (enabled plain) ∷ [])
+  pub not-set-up : ¬ Records blankLedger (taken H1 (reserved 5) ∷ [])
+  pub not-lent : ¬ Records (ledgerOf (lent H1 plain ∷ [])) (taken H1 (enabled plain) ∷ [])
+  pub twice : ¬ Records (ledgerOf (forUse H1 plain ∷ [])) (taken H1 (enabled plain) ∷ taken H1 (enabled plain) ∷ [])
+  -- rights hold what was sent: not where there is none, where none was installed, or with another key, hash, payload or count
+  pub lost : ¬ Contents (asking (install H1 plain) 0 ∷ []) blankLedger
+  pub refused : ¬ Contents (asking (install H1 plain) 7 ∷ []) (ledgerOf (forUse H1 plain ∷ []))
+  pub other-key : ¬ Contents (asking (install H1 plain) 0 ∷ []) (ledgerOf (forUse H1 (record { key = L; count = 7; hashes = []; payload = five }) ∷ []))
+  pub other-hash : ¬ Contents (asking (install H1 plain) 0 ∷ []) (ledgerOf (forUse H1 (record { key = K; count = 7; hashes = A ∷ []; payload = five }) ∷ []))
+  pub other-payload : ¬ Contents (asking (install H1 plain) 0 ∷ []) (ledgerOf (lent H1 (record { key = K; count = 7; hashes = []; payload = hex "BC" }) ∷ []))
+  pub other-count : ¬ Contents (asking (install H1 plain) 0 ∷ []) (ledgerOf (gone (record { key = K; count = 8; hashes = []; payload = five }) ∷ []))
   -- kinds 4 and 3 send a key
   pub by-query : KeyOut after7 (calling (hex "24 80 00 14" ++ H1 ++ H2)) H1 H2
   pub by-retrieval : KeyOut hashed2 (calling (hex "23 80 00 14" ++ H3 ++ H4)) H3 H4
+  -- but not where they are refused, nor does another kind
+  pub absent : ¬ KeyOut after9 (calling (hex "24 80 00 14" ++ H1 ++ H2)) H1 H2
+  pub by-info : ¬ KeyOut after7 (calling (hex "29 80 00 0A" ++ H1)) H1 H2
   -- returns that succeeded, under H1 to H4
   pub returns : map (λ k. returned k exchanged) (H1 ∷ H2 ∷ H3 ∷ H4 ∷ []) ≡ false ∷ true ∷ true ∷ false ∷ []
   pub refused-return : returned H2 (asking (enable H2 9) 4 ∷ []) ≡ false
@@ -55,3 +77,7 @@ pub record Hold : Type 0 where
   pub holds : map held (forUse H1 plain ∷ lent H1 other ∷ gone plain ∷ []) ≡ plain ∷ other ∷ plain ∷ []
   -- an enabled and a disabled record with other keys, beside an empty slot and a reservation
   pub alike : AlikeButKeys (after7 ++ blank ++ after9 ++ waiting) (rekeyed L after7 ++ blank ++ rekeyed (replicate 16 0x00) after9 ++ waiting)
+  -- but none in which another byte differs, or the number of slots
+  pub other-handle : ¬ AlikeButKeys after7 (changed 10 0x02 after7)
+  pub other-number : ¬ AlikeButKeys after7 (changed 27 0x01 after7)
+  pub other-slots : ¬ AlikeButKeys after7 (after7 ++ blank)
