@@ -1,6 +1,6 @@
 # The commands of the README. Each needs the Rattle toolchain (`rt`) and cargo, and nothing else; `bench` and `fuzz` need a C
 # compiler beside them.
-.PHONY: demo test bench fuzz planted
+.PHONY: demo test bench fuzz planted definitions
 
 # One course on a card, step by step, through the proved library.
 demo:
@@ -21,3 +21,7 @@ fuzz:
 # Errors planted in the second program, one at a time: the comparison must report each.
 planted:
 	@scripts/planted
+
+# Wrong definitions planted in the profile, one at a time: a worked case or a theorem must refuse each.
+definitions:
+	@scripts/definitions

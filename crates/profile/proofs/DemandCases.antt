@@ -70,6 +70,8 @@ demands-hold =
       named = refl;
       behind = refl;
       last-counts = refl;
+      sent-again = refl;
+      no-longer = refl;
       holds = refl;
       alike =
           record {

@@ -74,6 +74,9 @@ pub record Hold : Type 0 where
   pub named : map (λ p. p .handle) (installations exchanged) ≡ H1 ∷ H1 ∷ []
   pub behind : map (λ p. p .later) (installations exchanged) ≡ (asking (query H1 H2) 0 ∷ later) ∷ drop 1 later ∷ []
   pub last-counts : lastCount H1 false 7 (asking (query H1 H2) 0 ∷ later) ∷ lastCount H1 false 7 (drop 1 later) ∷ lastCount H3 true 7 later ∷ lastCount H2 false 7 [] ∷ [] ≡ 2 ∷ 7 ∷ 2 ∷ 7 ∷ []
+  -- a return that is sent again gives no count; nor does one under the handle of a right that is gone
+  pub sent-again : lastCount H2 true 7 (take 4 later) ≡ 3
+  pub no-longer : lastCount H1 true 7 (asking (remove H1) 0 ∷ asking (enable H1 3) 0 ∷ []) ≡ 7
   pub holds : map held (forUse H1 plain ∷ lent H1 other ∷ gone plain ∷ []) ≡ plain ∷ other ∷ plain ∷ []
   -- an enabled and a disabled record with other keys, beside an empty slot and a reservation
   pub alike : AlikeButKeys (after7 ++ blank ++ after9 ++ waiting) (rekeyed L after7 ++ blank ++ rekeyed (replicate 16 0x00) after9 ++ waiting)
