@@ -3,7 +3,7 @@ use Prim.Native.Nat.{ℕ}
 use mathlib.Core.Path.{_≡_}
 use mathlib.Core.List.{List, [], _∷_, _++_, map}
 use mathlib.Core.Bool.{Bool, true, false}
-use lib.ListN.{take}
+use lib.ListN.{take, replicate}
 use Rattle.profile.specs.Bytes.{Bytes, joined, pieces}
 use Rattle.profile.specs.Slot.{Right, recount, reserved, enabled, disabled, Slot, empty, taken}
 use Rattle.profile.specs.Frame.{Refusal, parameter, notFound, duplicate, unexpected, noSpace, twoRecords}
@@ -24,7 +24,7 @@ denies t q r = record { slots = t; request = q; answer = deny r }
 abbrev pub gives : List Slot → Request → Given → List Slot → Case
 gives t q g u = record { slots = t; request = q; answer = done g u }
 
--- ---- rights: with no hash, with A and B, with B alone, with eight hashes; six bytes of payload
+-- ---- rights: with no hash, with A and B, with B alone, with eight hashes; a key of zeros; six bytes of payload
 abbrev pub plain : Right
 plain = record { key = K; count = 7; hashes = []; payload = five }
 
@@ -36,6 +36,9 @@ onlyB = record { key = L; count = 258; hashes = B ∷ []; payload = hex "BC" }
 
 abbrev pub full8 : Right
 full8 = record { key = K; count = 0; hashes = pieces 20 8 eight; payload = five }
+
+abbrev pub zeroKey : Right
+zeroKey = record { key = replicate 16 0x00; count = 7; hashes = []; payload = five }
 
 abbrev pub six : Right
 six = record { key = K; count = 7; hashes = []; payload = hex "A1 A2 A3 A4 A5 A6" }
@@ -105,6 +108,9 @@ lendings =
     ∷ denies full (query H1 H2) unexpected
     ∷ denies full (retrieve H3 H2) unexpected
     ∷ denies full (query H3 H2) unexpected
+    -- whatever its key
+    ∷ denies (taken H1 (disabled zeroKey) ∷ []) (query H1 H2) unexpected
+    ∷ denies (taken H1 (disabled zeroKey) ∷ []) (retrieve H1 H2) unexpected
     -- "new handle in any non-empty slot, its own included, 5"
     ∷ denies full (retrieve H2 H1) duplicate
     ∷ denies full (query H2 H1) duplicate

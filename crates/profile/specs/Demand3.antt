@@ -13,7 +13,7 @@ use Rattle.profile.specs.Table.{slotBytes, slotsOf, wholeSlots, wellTabl
 use Rattle.profile.specs.Frame.{frame, writeRight}
 use Rattle.profile.specs.Request.{Request, setup, install, retrieve, query, enable, remove, cancel, list, info}
 use Rattle.profile.specs.Agent.{Call, agent}
-use Rattle.profile.specs.History.{open-setup, Owned, forUse, lent, Ledger, rightNumber, Exchange, history}
+use Rattle.profile.specs.History.{open-setup, Owned, forUse, lent, Ledger, rightNumber, Exchange}
 use Rattle.profile.specs.Run.{exchangeOf, exchanges, blankTable, tableAfterAll, ledgerThen, underSlots, Agrees}
 use Rattle.profile.specs.Contents.{Contents}
 
@@ -124,8 +124,8 @@ pub record Demand3 (n : ℕ) (cs : List Call) : Type 0 where
   -- then among these a return under the handle k, set when the key went out, has succeeded
   pub between : (c : Call) (h k : Bytes) → KeyOut (tableAfterAll n cs) c h k → (more : List Call) (i : ℕ) (h′ : Bytes) (r r′ : Right)
       → rightNumber i (ledgerThen n cs) ≡ some (forUse h r)
-      → rightNumber i (history (history (ledgerThen n cs) (exchangeOf (tableAfterAll n cs) c)) (exchanges (agent (tableAfterAll n cs) c .table) more)) ≡ some (forUse h′ r′)
-      → returned k (exchanges (agent (tableAfterAll n cs) c .table) more) ≡ true
+      → rightNumber i (ledgerThen n (cs ++ (c ∷ more))) ≡ some (forUse h′ r′)
+      → returned k (exchanges (tableAfterAll n (cs ++ (c ∷ []))) more) ≡ true
   -- of two replies with the key of one right, the first of which set the handle k: between them a return under k has succeeded
   pub two-keys : (i : ℕ) (first second : Call) (more : List Call) (h k h′ k′ : Bytes)
       → KeyOf i (ledgerThen n cs) (tableAfterAll n cs) first h k
