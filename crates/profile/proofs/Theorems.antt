@@ -19,7 +19,8 @@ use Rattle.profile.proofs.WrittenAgain.{written-again}
 use Rattle.profile.proofs.Replies.{replies-read}
 use Rattle.profile.proofs.Statuses.{never-8}
 use Rattle.profile.proofs.AnyTable.{count-under, stays-well}
-use Rattle.profile.proofs.Laws.{apart, apart-distinct, refuses, found-is, sets-lowest, sets-only, lists-exactly, lists-only}
+use Rattle.profile.proofs.Laws.{apart, apart-distinct, refuses, found-is, sets-lowest, sets-only}
+use Rattle.profile.proofs.ListLaws.{lists-exactly, lists-only}
 use Rattle.profile.proofs.BytesCases.{bytes-hold}
 use Rattle.profile.proofs.TableCases.{tables-hold}
 use Rattle.profile.proofs.RequestCases.{requests-hold}

@@ -94,3 +94,31 @@ eight = counting 0x10 160
 -- five bytes of payload
 abbrev pub five : Bytes
 five = hex "A1 A2 A3 A4 A5"
+
+-- ---- fields of frames, of different bytes: a handle, a new one, a key, two hashes; the eight hashes one by one
+abbrev pub h : Bytes
+h = counting 0x01 10
+
+abbrev pub n : Bytes
+n = counting 0x11 10
+
+abbrev pub key : Bytes
+key = counting 0x21 16
+
+abbrev pub p : Bytes
+p = counting 0x40 20
+
+abbrev pub q : Bytes
+q = counting 0x60 20
+
+abbrev pub eightHashes : List Bytes
+eightHashes =
+    counting 0x10 20
+    ∷ counting 0x24 20
+    ∷ counting 0x38 20
+    ∷ counting 0x4C 20
+    ∷ counting 0x60 20
+    ∷ counting 0x74 20
+    ∷ counting 0x88 20
+    ∷ counting 0x9C 20
+    ∷ []

@@ -9,7 +9,7 @@ use Rattle.profile.specs.Bytes.{Bytes, joined}
 use Rattle.profile.specs.Frame.{integrity, parameter, unsupported, notFound, duplicate, unexpected, noSpace, twoRecords}
 use Rattle.profile.specs.Agent.{nothing, theRight, theKey, handles, counted, deny, done, Answer, replyFrame}
 use Rattle.profile.specs.Device.{Reply, malformed, failed, gave, readReply, sent}
-use Rattle.profile.specs.CaseBytes.{hex, counting, sized}
+use Rattle.profile.specs.CaseBytes.{hex, counting, sized, h, n, key, p, q, eight, eightHashes}
 
 -- a reply frame, and what it is read as
 abbrev pub Case : Type 0
@@ -22,36 +22,6 @@ bad f = (f, malformed)
 -- a success of a kind that gives nothing
 abbrev pub plain : ℕ → Bytes → Case
 plain kind f = (f, gave kind nothing)
-
-abbrev pub key : Bytes
-key = counting 0x21 16
-
-abbrev pub p : Bytes
-p = counting 0x40 20
-
-abbrev pub q : Bytes
-q = counting 0x60 20
-
-abbrev pub h : Bytes
-h = counting 0x01 10
-
-abbrev pub n : Bytes
-n = counting 0x11 10
-
-abbrev pub eight : Bytes
-eight = counting 0x10 160
-
-abbrev pub eightHashes : List Bytes
-eightHashes =
-    counting 0x10 20
-    ∷ counting 0x24 20
-    ∷ counting 0x38 20
-    ∷ counting 0x4C 20
-    ∷ counting 0x60 20
-    ∷ counting 0x74 20
-    ∷ counting 0x88 20
-    ∷ counting 0x9C 20
-    ∷ []
 
 -- fifteen handles, one by one
 abbrev pub fifteen : List Bytes

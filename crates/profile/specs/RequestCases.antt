@@ -8,7 +8,7 @@ use lib.ListN.{take, replicate}
 use Rattle.profile.specs.Bytes.{Bytes, joined}
 use Rattle.profile.specs.Frame.{Kind, Setup, Install, Retrieve, Query, Enable, Remove, Cancel, List', Info, versionHolds, kindNumber, hashCountAt18, Refusal, integrity, parameter, unsupported}
 use Rattle.profile.specs.Request.{Request, setup, install, retrieve, query, enable, remove, cancel, list, info, Read, asks, refused, noFrame, verdict, zeroBits, bodyFits, readRequest, writeRequest}
-use Rattle.profile.specs.CaseBytes.{hex, counting, sized}
+use Rattle.profile.specs.CaseBytes.{hex, sized, h, n, key, p, q, eight, eightHashes}
 
 -- a frame, and what it is read as
 abbrev pub Case : Type 0
@@ -19,38 +19,6 @@ reads f q = (f, asks q)
 
 abbrev pub refuses : Bytes → Refusal → Case
 refuses f r = (f, refused r)
-
--- fields of different bytes: a handle, a new one, a key, two hashes
-abbrev pub h : Bytes
-h = counting 0x01 10
-
-abbrev pub n : Bytes
-n = counting 0x11 10
-
-abbrev pub key : Bytes
-key = counting 0x21 16
-
-abbrev pub p : Bytes
-p = counting 0x40 20
-
-abbrev pub q : Bytes
-q = counting 0x60 20
-
--- eight hashes, as bytes and one by one
-abbrev pub eight : Bytes
-eight = counting 0x10 160
-
-abbrev pub eightHashes : List Bytes
-eightHashes =
-    counting 0x10 20
-    ∷ counting 0x24 20
-    ∷ counting 0x38 20
-    ∷ counting 0x4C 20
-    ∷ counting 0x60 20
-    ∷ counting 0x74 20
-    ∷ counting 0x88 20
-    ∷ counting 0x9C 20
-    ∷ []
 
 -- kind 2: first two bytes; count, hash count and zero bits; hashes and payload
 abbrev pub right : String → String → Bytes → Bytes

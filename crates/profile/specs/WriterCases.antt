@@ -5,7 +5,7 @@ use mathlib.Core.List.{List, [], _∷_, _++_, map}
 use lib.ListN.{length, take, replicate}
 use Rattle.profile.specs.Bytes.{Bytes}
 use Rattle.profile.specs.Device.{Fields, Written, write}
-use Rattle.profile.specs.CaseBytes.{hex, counting}
+use Rattle.profile.specs.CaseBytes.{hex, h, n, key, p, eight}
 
 -- a kind, fields, the length of the buffer; the number, and the frame at the buffer's start
 pub record Case : Type 0 where
@@ -39,22 +39,7 @@ writes kind f frame =
     ∷ refuses kind f 0 201
     ∷ []
 
--- ---- fields of different bytes
-abbrev pub h : Bytes
-h = counting 0x01 10
-
-abbrev pub n : Bytes
-n = counting 0x11 10
-
-abbrev pub key : Bytes
-key = counting 0x21 16
-
-abbrev pub p : Bytes
-p = counting 0x40 20
-
-abbrev pub eight : Bytes
-eight = counting 0x10 160
-
+-- ---- what a kind lacks: a handle, and a key
 abbrev pub z10 : Bytes
 z10 = replicate 10 0x00
 
