@@ -10,12 +10,12 @@ use Rattle.profile.specs.Request.{Request, Read, asks, numberOf, readRequest}
 use Rattle.profile.specs.Agent.{Outcome, tableAfter, obey, lowestEmpty}
 use Rattle.profile.proofs.Frames.{Reads, reads}
 use Rattle.profile.proofs.Requests.{kind-number}
-use Rattle.requests.specs.declared.asked.Why.{Why}
-use Rattle.requests.specs.declared.asked.Body.{Body}
-use Rattle.requests.specs.declared.asked.Ask.the-variants.{No}
-use Rattle.requests.specs.declared.asked.Asked.{Asked}
-use Rattle.requests.specs.Answer.{Answers, whyMeans, bodyMeans}
-use Rattle.requests.proofs.ByCase.{says-no, says-yes}
+use Rattle.request_reader.specs.declared.asked.Why.{Why}
+use Rattle.request_reader.specs.declared.asked.Body.{Body}
+use Rattle.request_reader.specs.declared.asked.Ask.the-variants.{No}
+use Rattle.request_reader.specs.declared.asked.Asked.{Asked}
+use Rattle.request_reader.specs.Answer.{Answers, whyMeans, bodyMeans}
+use Rattle.request_reader.proofs.ByCase.{says-no, says-yes}
 use Rattle.decisions.specs.Serving.{Serves, answerTo}
 use Rattle.queries.specs.Query.{replyTo}
 use Rattle.refusals.specs.Refusing.{Refuses}
@@ -26,8 +26,8 @@ pub why-means : (f : Bytes) (r : Asked) → Answers f r → (w x : Why) → r .a
 why-means f r a w x e d = ap whyMeans (d ∙ ap whyOf e) ∙ sym (says-no f r a w e)
 
 pub refusal-obeys : (f : Bytes) (w : Why) (buffer : Bytes) (n : ℕ) (buffer' : Bytes) → Refuses f w buffer n buffer' → whyMeans w ≡ readRequest f
-    → (place : ℕ) (t : List Slot) (table : Bytes) → outcome n buffer' table ≡ obey (kindNumber f) (readRequest f) place t table buffer
-refusal-obeys f w buffer n buffer' s e place t table = s .on-any place t table ∙ ap (λ (r : Read). obey (kindNumber f) r place t table buffer) e
+    → (free : ℕ) (t : List Slot) (table : Bytes) → outcome n buffer' table ≡ obey (kindNumber f) (readRequest f) free t table buffer
+refusal-obeys f w buffer n buffer' s e free t table = s .on-any free t table ∙ ap (λ (r : Read). obey (kindNumber f) r free t table buffer) e
 
 -- ---- a request
 module _ (f : Bytes) (r : Asked) (b : Body) (a : Asks f r b) where

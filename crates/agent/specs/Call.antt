@@ -3,13 +3,13 @@ use Prim.Native.Nat.{ℕ}
 use mathlib.Core.Path.{_≡_}
 use Rattle.profile.specs.Bytes.{Bytes}
 use Rattle.profile.specs.Agent.{Call, Outcome}
-use Rattle.requests.specs.declared.asked.Why.{Why}
-use Rattle.requests.specs.declared.asked.Why.the-variants.{NoFrame}
-use Rattle.requests.specs.declared.asked.Body.{Body}
-use Rattle.requests.specs.declared.asked.Ask.{Ask}
-use Rattle.requests.specs.declared.asked.Ask.the-variants.{No, Yes}
-use Rattle.requests.specs.declared.asked.Asked.{Asked}
-use Rattle.requests.specs.Answer.{Answers}
+use Rattle.request_reader.specs.declared.asked.Why.{Why}
+use Rattle.request_reader.specs.declared.asked.Why.the-variants.{NoFrame}
+use Rattle.request_reader.specs.declared.asked.Body.{Body}
+use Rattle.request_reader.specs.declared.asked.Ask.{Ask}
+use Rattle.request_reader.specs.declared.asked.Ask.the-variants.{No, Yes}
+use Rattle.request_reader.specs.declared.asked.Asked.{Asked}
+use Rattle.request_reader.specs.Answer.{Answers}
 
 -- the number, and the reply buffer and the table afterwards
 abbrev pub outcome : ℕ → Bytes → Bytes → Outcome

@@ -1,15 +1,15 @@
 // The card agent: "One call takes a request frame, a lent table of slots and a lent reply buffer."
-use requests::asked::Ask;
-use requests::asked::Asked;
-use requests::asked::Body;
-use requests::asked::Why;
+use request_reader::asked::Ask;
+use request_reader::asked::Asked;
+use request_reader::asked::Body;
+use request_reader::asked::Why;
 ghost use mathlib.Core.Path.{_≡_};
 ghost use lib.ListN.{length};
 ghost use Rattle.profile.specs.Table.{slotsOf};
 ghost use Rattle.profile.specs.Frame.{kindNumber};
 ghost use Rattle.profile.specs.Request.{readRequest};
 ghost use Rattle.profile.specs.Agent.{agent, obey, lowestEmpty};
-ghost use Rattle.requests.specs.Answer.{bodyMeans};
+ghost use Rattle.request_reader.specs.Answer.{bodyMeans};
 ghost use Rattle.decisions.specs.Serving.{Ready, Serves, answerTo};
 ghost use Rattle.agent.specs.Call.{outcome, callOf, whyOf, Asks};
 
@@ -40,7 +40,7 @@ fn serve(table: &mut [u8], frame: &[u8], reply: &mut [u8], asked: Asked, body: B
             length,
         } => setups::install::install(table, reply, h, key, count, hashes, frame, at, length),
         Body::Retrieve => rights::retrieve::retrieve(table, reply, h, k),
-        Body::Query => rights::rek::rek_query(table, reply, h, k),
+        Body::Rek => rights::rek::rek(table, reply, h, k),
         Body::Enable { count } => rights::enable::enable(table, reply, h, count),
         Body::Remove => rights::remove::remove(table, reply, h),
         Body::Cancel => setups::cancel::cancel(table, reply, h),
@@ -61,7 +61,7 @@ fn answer(table: &mut [u8], frame: &[u8], reply: &mut [u8]) -> u16
     requires { ⌜ Ready (now table) (now reply) ⌝ }
     ensures { λ r. ⌜ outcome r (now (reply .exit)) (now (table .exit)) ≡ obey (kindNumber (now (frame .entry))) (readRequest (now (frame .entry))) (lowestEmpty (slotsOf (now (table .entry)))) (slotsOf (now (table .entry))) (now (table .entry)) (now (reply .entry)) ⌝ }
 {
-    let asked = requests::reader::read_request(frame);
+    let asked = request_reader::reader::read_request(frame);
     let ask = asked.ask;
     let Ask::Yes(body) = ask else {
         return refusals::refuse(frame, reply, why_of(ask));

@@ -76,21 +76,21 @@ pub fn flag_byte(on: bool) -> u8
 }
 
 // "hash count 4 bits, 4 zero bits", as kinds 2 and 3 have it: the hash count.
-pub fn count_of(b: u8) -> u8
+pub fn hash_count_of(b: u8) -> u8
     ensures { λ r. ⌜ r ≡ b / 16 ⌝ }
 {
     b >> 4
 }
 
 // The four bits below a hash count, which are to be 0.
-pub fn count_rest(b: u8) -> u8
+pub fn hash_count_rest(b: u8) -> u8
     ensures { λ r. ⌜ r ≡ b % 16 ⌝ }
 {
     b & 15
 }
 
 // A hash count with four zero bits below it.
-pub fn count_byte(n: u8) -> u8
+pub fn hash_count_byte(n: u8) -> u8
     requires { ⌜ n < 16 ⌝ }
     ensures { λ r. ⌜ r ≡ 16 * n ⌝ }
 {

@@ -7,7 +7,7 @@ use native.Mathlib.Omega.{arith}
 use lib.Dec.{eqb, leb, ltb}
 use lib.ListN.{length}
 use Rattle.profile.specs.Bytes.{Bytes, byte}
-use Rattle.profile.specs.Frame.{Kind, Setup, Install, Retrieve, Query, Enable, Remove, Cancel, List', Info, kindOf, lastStatus, isFrame, versionHolds, kindNumber, body, statusIn}
+use Rattle.profile.specs.Frame.{Kind, Setup, Install, Retrieve, Rek, Enable, Remove, Cancel, List', Info, kindOf, lastStatus, isFrame, versionHolds, kindNumber, body, statusIn}
 use Rattle.profile.specs.Device.{none?, shaped}
 use Rattle.profile.proofs.Logic.{and-parts, leb-le, if-both, if-cases}
 use Rattle.reply_reader.specs.declared.answer.Told.{Told}
@@ -45,7 +45,7 @@ module _ (f : Bytes) where
   of-kind Setup e = tt
   of-kind Install e = tt
   of-kind Retrieve e = right-small e
-  of-kind Query e = tt
+  of-kind Rek e = tt
   of-kind Enable e = tt
   of-kind Remove e = tt
   of-kind Cancel e = tt

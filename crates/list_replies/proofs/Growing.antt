@@ -13,7 +13,7 @@ use Rattle.profile.specs.Agent.{handles, done, replyFrame}
 use Rattle.profile.proofs.Strings.{length-each}
 use Rattle.buffers.specs.Over.{overAt}
 use Rattle.buffers.proofs.Overlays.{over-start, over-length, over-more}
-use Rattle.replies.specs.Written.{headOf}
+use Rattle.reply_writer.specs.Written.{headOf}
 use Rattle.list_replies.specs.Listed.{holding, listStart}
 
 -- ---- one handle more

@@ -4,7 +4,7 @@ use mathlib.Core.List.{List, [], _∷_, _++_}
 use mathlib.Core.Bool.{Bool}
 use Rattle.profile.specs.Bytes.{Bytes, if_then_else_, joined}
 use Rattle.buffers.specs.Over.{overAt}
-use Rattle.replies.specs.Written.{headOf}
+use Rattle.reply_writer.specs.Written.{headOf}
 
 -- the buffer b with handles, the first at offset 5
 unfoldable pub holding : List Bytes → Bytes → Bytes

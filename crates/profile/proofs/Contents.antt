@@ -8,7 +8,7 @@ use lib.Dec.{eqb}
 use lib.ListN.{length, getElem?, length-map}
 use Rattle.profile.specs.Bytes.{Bytes, if_then_else_, same}
 use Rattle.profile.specs.Slot.{Count, Right, recount}
-use Rattle.profile.specs.Request.{Request, setup, install, retrieve, query, enable, remove, cancel, list, info}
+use Rattle.profile.specs.Request.{Request, setup, install, retrieve, rek, enable, remove, cancel, list, info}
 use Rattle.profile.specs.History.{Owned, forUse, lent, gone, Ledger, blankLedger, lend, giveBack, end, tell, Exchange, history}
 use Rattle.profile.specs.Contents.{Installed, installed, installations, follow, lastCount, held, Holds, Contents}
 use Rattle.profile.proofs.Logic.{if-both}
@@ -19,7 +19,7 @@ abbrev turn : Request → Owned → Owned
 turn (setup h n) o = o
 turn (install h r) o = o
 turn (retrieve h k) o = lend h k o
-turn (query h k) o = lend h k o
+turn (rek h k) o = lend h k o
 turn (enable h c) o = giveBack h c o
 turn (remove h) o = end h o
 turn (cancel h) o = o
@@ -65,7 +65,7 @@ rights-then l (x ∷ xs) = go (eqb (x .status) 0) (x .request) (rights-then l xs
     go true (setup h n) same-ledger told-ledger = told-ledger (setup h n)
     go true (install h r) same-ledger told-ledger = told-ledger (install h r) ∙ map-one-more (λ (o : Owned). onward o xs) (l .rights) (forUse h r) (map since (installations xs))
     go true (retrieve h k) same-ledger told-ledger = told-ledger (retrieve h k) ∙ turned (lend h k)
-    go true (query h k) same-ledger told-ledger = told-ledger (query h k) ∙ turned (lend h k)
+    go true (rek h k) same-ledger told-ledger = told-ledger (rek h k) ∙ turned (lend h k)
     go true (enable h c) same-ledger told-ledger = told-ledger (enable h c) ∙ turned (giveBack h c)
     go true (remove h) same-ledger told-ledger = told-ledger (remove h) ∙ turned (end h)
     go true (cancel h) same-ledger told-ledger = told-ledger (cancel h)
@@ -110,7 +110,7 @@ module _ (xs : List Exchange) where
     turn-used (setup g n) h r = used h r
     turn-used (install g s) h r = used h r
     turn-used (retrieve g k) h r = pick (same g h) r (lent k r) (forUse h r) _ _ (out k r) (used h r)
-    turn-used (query g k) h r = pick (same g h) r (lent k r) (forUse h r) _ _ (out k r) (used h r)
+    turn-used (rek g k) h r = pick (same g h) r (lent k r) (forUse h r) _ _ (out k r) (used h r)
     turn-used (enable g d) h r = pick-none (same g h) r (forUse h r) _ _ (used h r)
     turn-used (remove g) h r = pick (same g h) r (gone r) (forUse h r) _ _ (over r) (used h r)
     turn-used (cancel g) h r = used h r
@@ -126,7 +126,7 @@ module _ (xs : List Exchange) where
     turn-out (setup g n) h r = out h r
     turn-out (install g s) h r = out h r
     turn-out (retrieve g k) h r = pick (same g h) r (lent k r) (lent h r) _ _ (out k r) (out h r)
-    turn-out (query g k) h r = pick (same g h) r (lent k r) (lent h r) _ _ (out k r) (out h r)
+    turn-out (rek g k) h r = pick (same g h) r (lent k r) (lent h r) _ _ (out k r) (out h r)
     turn-out (enable g d) h r = pick-lent (same g h) r (forUse h (recount d r)) (lent h r) _ _ (returned h d r) (out h r)
     turn-out (remove g) h r = pick (same g h) r (gone r) (lent h r) _ _ (over r) (out h r)
     turn-out (cancel g) h r = out h r
@@ -137,7 +137,7 @@ turn-gone : (q : Request) (r : Right) → turn q (gone r) ≡ gone r
 turn-gone (setup h n) r = refl
 turn-gone (install h s) r = refl
 turn-gone (retrieve h k) r = refl
-turn-gone (query h k) r = refl
+turn-gone (rek h k) r = refl
 turn-gone (enable h c) r = refl
 turn-gone (remove h) r = refl
 turn-gone (cancel h) r = refl

@@ -9,12 +9,12 @@ use Rattle.profile.specs.Bytes.{Bytes, byte, zeros, over, In}
 use Rattle.profile.specs.Table.{unpack, image, pack, wellSlot, slotBytes, slotsOf, tableOf, wholeSlots, wellTable}
 use Rattle.profile.specs.Slot.{reserved, enabled, disabled, Slot, empty, taken}
 use Rattle.profile.specs.Frame.{frame}
-use Rattle.profile.specs.Request.{Request, query, retrieve, readRequest, numberOf}
+use Rattle.profile.specs.Request.{Request, rek, retrieve, readRequest, numberOf}
 use Rattle.profile.specs.Agent.{act, replyFrame, agent}
 use Rattle.profile.specs.History.{Exchange}
 use Rattle.profile.specs.CaseBytes.{H1, H2, H3, H4}
 use Rattle.profile.specs.HistoryCases.{plain}
-use Rattle.profile.specs.Demand3.{Lends, by-query, by-retrieval}
+use Rattle.profile.specs.Demand3.{Lends, by-rek, by-retrieval}
 use Rattle.profile.specs.DemandCases
 use Rattle.profile.proofs.Logic.{not-equal, not-over}
 use Rattle.profile.proofs.Laws.{not-there}
@@ -43,7 +43,7 @@ firstKind (x ∷ xs) = numberOf (x .request)
 
 lends-small : {q : Request} {h k : Bytes} → Lends q h k → numberOf q ≤ 4
 lends-small by-retrieval = omega arith
-lends-small by-query = omega arith
+lends-small by-rek = omega arith
 
 pub demands-hold : DemandCases.Hold
 unfolding slotNumber firstStatus firstKind agent wholeSlots zeros wellTable slotBytes wellSlot slotsOf unpack readRequest over replyFrame frame act tableOf pack image
@@ -60,7 +60,7 @@ demands-hold =
       other-hash = λ c. not-equal 1 0 (λ t. t) (ap (λ (hs : List Bytes). length hs) (c .each 0 _ _ refl refl .hashes));
       other-payload = λ c. not-equal 1 5 (λ t. t) (ap (λ (p : Bytes). length p) (c .each 0 _ _ refl refl .payload));
       other-count = λ c. not-equal 8 7 (λ t. t) (c .each 0 _ _ refl refl .count);
-      by-query = record { asked = query H1 H2; lends = by-query; success = refl };
+      by-rek = record { asked = rek H1 H2; lends = by-rek; success = refl };
       by-retrieval = record { asked = retrieve H3 H4; lends = by-retrieval; success = refl };
       absent = λ o. not-equal 4 0 (λ t. t) (ap firstStatus (o .success));
       by-info = λ o. not-over 9 4 (λ t. t) (rw (sym (ap firstKind (o .success))) at (lends-small (o .lends)));

@@ -106,13 +106,13 @@ apart-distinct (s ∷ t) a = go s (apart-distinct t (λ i j h e f p q. suc-inj (
   where
     go : (s : Slot) → distinct t ≡ true → Apart (s ∷ t) → distinct (s ∷ t) ≡ true
     go empty d a = d
-    go (taken k x) d a = both (free (inUse k t) refl) d
+    go (taken k x) d a = both (is-new (inUse k t) refl) d
       where
-        free : (b : Bool) → inUse k t ≡ b → not b ≡ true
-        free true u =
+        is-new : (b : Bool) → inUse k t ≡ b → not b ≡ true
+        is-new true u =
             let w = in-use-where k t u in
             absurd (omega (arith, a 0 (suc (w .0)) k x (w .1) refl (w .2)))
-        free false u = refl
+        is-new false u = refl
 
 -- ---- refusals
 module _ (table : Bytes) (c : Call) where
@@ -125,12 +125,12 @@ module _ (table : Bytes) (c : Call) where
   refused-status (done g u) = record { by-number = λ z. absurd (true≢false z); by-status = λ _ z. absurd (true≢false z) }
 
   pub refuses : Refuses table c (agent table c)
-  refuses = by-agent table c (Refuses table c) refused-number (λ _ _ place _. obeyed (readRequest (c .request)) place)
+  refuses = by-agent table c (Refuses table c) refused-number (λ _ _ free _. obeyed (readRequest (c .request)) free)
     where
-      obeyed : (r : Read) (place : ℕ) → Refuses table c (obey (kindNumber (c .request)) r place (slotsOf table) table (c .buffer))
-      obeyed (asks q) place = refused-status (act place (slotsOf table) q)
-      obeyed (refused r) place = refused-status (deny r)
-      obeyed noFrame place = refused-number 104 refl
+      obeyed : (r : Read) (free : ℕ) → Refuses table c (obey (kindNumber (c .request)) r free (slotsOf table) table (c .buffer))
+      obeyed (asks q) free = refused-status (act free (slotsOf table) q)
+      obeyed (refused r) free = refused-status (deny r)
+      obeyed noFrame free = refused-number 104 refl
 
 -- ---- looking up
 next-is : (h : Bytes) (s : Slot) (t : List Slot) (x : Found) → ((e : Entry) → some s ≡ some (taken h e) → ⊥) → FoundIs h t x → FoundIs h (s ∷ t) (next x)
@@ -163,18 +163,18 @@ lowest-there [] h = absurd (omega (arith, h))
 lowest-there (empty ∷ t) h = refl
 lowest-there (taken k e ∷ t) h = lowest-there t (omega (arith, h))
 
-lowest-only : (t : List Slot) (place : ℕ) → getElem? t place ≡ some empty → ((i : ℕ) → i < place → getElem? t i ≡ some empty → ⊥) → place ≡ lowestEmpty t
-lowest-only [] place p n = absurd (not-there p)
+lowest-only : (t : List Slot) (free : ℕ) → getElem? t free ≡ some empty → ((i : ℕ) → i < free → getElem? t i ≡ some empty → ⊥) → free ≡ lowestEmpty t
+lowest-only [] free p n = absurd (not-there p)
 lowest-only (empty ∷ t) zero p n = refl
-lowest-only (empty ∷ t) (suc place) p n = absurd (n 0 (omega arith) refl)
+lowest-only (empty ∷ t) (suc free) p n = absurd (n 0 (omega arith) refl)
 lowest-only (taken k e ∷ t) zero p n = absurd (empty-not-taken (sym p))
-lowest-only (taken k e ∷ t) (suc place) p n = ap suc (lowest-only t place p (λ i h. n (suc i) (omega (arith, h))))
+lowest-only (taken k e ∷ t) (suc free) p n = ap suc (lowest-only t free p (λ i h. n (suc i) (omega (arith, h))))
 
 -- no other slot meets the law
 pub sets-only : (t : List Slot) (h : Bytes) (n : ℕ) (u : List Slot) → SetsLowest t h n u → u ≡ set t (lowestEmpty t) (taken h (reserved n))
-sets-only t h n u s = s .after ∙ ap (λ (i : ℕ). set t i (taken h (reserved n))) (lowest-only t (s .place) (s .is-empty) (s .none-lower))
+sets-only t h n u s = s .after ∙ ap (λ (i : ℕ). set t i (taken h (reserved n))) (lowest-only t (s .free) (s .is-empty) (s .none-lower))
 
 pub sets-lowest : (t : List Slot) (h : Bytes) (n : ℕ) (g : Given) (u : List Slot) → act (lowestEmpty t) t (setup h n) ≡ done g u → SetsLowest t h n u
 sets-lowest t h n g u e =
     let d = rw e at (acts (lowestEmpty t) t (setup h n)) in
-    record { place = lowestEmpty t; is-empty = lowest-there t (d .room); none-lower = lowest-none t; after = d .after }
+    record { free = lowestEmpty t; is-empty = lowest-there t (d .room); none-lower = lowest-none t; after = d .after }

@@ -219,15 +219,15 @@ module _ (limit : ℕ) (hs : List Bytes) (g : Given) (w : WithinLimit limit hs g
       first-is = rw (← as-many) (sym (take-at (w .first) (w .left-off) (length (w .first)) refl) ∙ ap (take (length (w .first))) (sym (w .parts)))
 
 -- no other answer meets the laws
-pub lists-only : (place : ℕ) (t : List Slot) (limit : ℕ) (q : List Bytes) (g : Given) → ListsExactly limit q t g → act place t (list limit q) ≡ done g t
+pub lists-only : (free : ℕ) (t : List Slot) (limit : ℕ) (q : List Bytes) (g : Given) → ListsExactly limit q t g → act free t (list limit q) ≡ done g t
 unfolding act
-lists-only place t limit q g w =
+lists-only free t limit q g w =
     ap {B = Answer} (λ (x : Given). done x t)
     (ap (firstOf limit) (sym (ordered-only q (w .ordered))) ∙ sym (within-only limit (w .all) g (w .limited)))
 
-pub lists-exactly : (place : ℕ) (t : List Slot) (limit : ℕ) (q : List Bytes) → (g : Given) × (act place t (list limit q) ≡ done g t) × ListsExactly limit q t g
+pub lists-exactly : (free : ℕ) (t : List Slot) (limit : ℕ) (q : List Bytes) → (g : Given) × (act free t (list limit q) ≡ done g t) × ListsExactly limit q t g
 unfolding act
-lists-exactly place t limit q = (
+lists-exactly free t limit q = (
   firstOf limit (listed q t),
   refl,
   record {

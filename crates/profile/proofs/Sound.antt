@@ -35,7 +35,7 @@ module _ (l : Ledger) (table : Bytes) (s : Sound l table) where
   sound-end : (c : Call) (xs : List Exchange) (o : Outcome) → Comes (s .slots) c xs o → Sound (history l xs) (o .table)
   sound-end c xs o (inl i) = rw (failed-history l xs (i .failed), i .after, ← (s .packed)) s
   sound-end c xs o (inr d) =
-      let f = fitting (s .slots) (s .fits) (d .place) (d .asked) (read-fits (c .request) (d .asked) (d .read)) (d .given) (d .slots) (d .does) in
+      let f = fitting (s .slots) (s .fits) (d .free) (d .asked) (read-fits (c .request) (d .asked) (d .read)) (d .given) (d .slots) (d .does) in
       rw (d .told)
       (record {
         slots = d .slots;
@@ -43,7 +43,7 @@ module _ (l : Ledger) (table : Bytes) (s : Sound l table) where
         fits = f .0;
         some-slots = rw (f .1) (s .some-slots);
         few-slots = rw (f .1) (s .few-slots);
-        agrees = kept l (s .slots) (s .agrees) (d .place) (d .free) (d .asked) (d .given) (d .slots) (d .does);
+        agrees = kept l (s .slots) (s .agrees) (d .free) (d .is-free) (d .asked) (d .given) (d .slots) (d .does);
       })
 
 pub sound-call : (l : Ledger) (table : Bytes) → Sound l table → (c : Call) → Sound (history l (exchangeOf table c)) (agent table c .table)

@@ -10,8 +10,8 @@ use lib.ListN.{length, drop, length-drop}
 use lib.Seq.{drop-cons}
 use Rattle.profile.specs.Bytes.{Bytes, Bytes256, byte, word, zeros, over, joined, pieces}
 use Rattle.profile.specs.Slot.{hashSize, mostHashes, Count, HashesFit}
-use Rattle.profile.specs.Frame.{Kind, Setup, Install, Retrieve, Query, Enable, Remove, Cancel, List', Info, kindOf, kindNumber}
-use Rattle.profile.specs.Request.{Request, setup, install, retrieve, query, enable, remove, cancel, list, info, asks, verdict, guarded, fields, readRequest, withVerdict, RequestFits}
+use Rattle.profile.specs.Frame.{Kind, Setup, Install, Retrieve, Rek, Enable, Remove, Cancel, List', Info, kindOf, kindNumber}
+use Rattle.profile.specs.Request.{Request, setup, install, retrieve, rek, enable, remove, cancel, list, info, asks, verdict, guarded, fields, readRequest, withVerdict, RequestFits}
 use Rattle.profile.specs.Device.{wholeHashes, kindHolds, requestOf, fieldsWith, fieldsIn, Arrays, Written, write}
 use Rattle.profile.specs.Theorems.{WrittenAgain}
 use Rattle.profile.proofs.Logic.{both, and-parts, eqb-true, leb-le, leb-true, ltb-false, from-1-to, positive}
@@ -24,7 +24,7 @@ kindFor : Request → Kind
 kindFor (setup h n) = Setup
 kindFor (install h r) = Install
 kindFor (retrieve h k) = Retrieve
-kindFor (query h k) = Query
+kindFor (rek h k) = Rek
 kindFor (enable h c) = Enable
 kindFor (remove h) = Remove
 kindFor (cancel h) = Cancel
@@ -36,7 +36,7 @@ unfolding kindFor
 kind-for Setup f = refl
 kind-for Install f = refl
 kind-for Retrieve f = refl
-kind-for Query f = refl
+kind-for Rek f = refl
 kind-for Enable f = refl
 kind-for Remove f = refl
 kind-for Cancel f = refl
@@ -62,7 +62,7 @@ unfolding kindFor zeros
 allowed (setup h n) z = refl
 allowed (install h r) z = both (whole (r .hashes) (z .1 .room .hashed)) (from-1-to {n = length (r .payload)} {m = 4096} (z .1 .some-payload) (z .1 .room .short))
 allowed (retrieve h k) z = refl
-allowed (query h k) z = refl
+allowed (rek h k) z = refl
 allowed (enable h c) z = refl
 allowed (remove h) z = refl
 allowed (cancel h) z = refl
@@ -74,7 +74,7 @@ unfolding kindFor
 back (setup h n) z = refl
 back (install h r) z = ap {B = Request} (λ (hs : List Bytes). install h (record { key = r .key; count = r .count; hashes = hs; payload = r .payload })) (cut-again (r .hashes) (z .1 .room .hashed))
 back (retrieve h k) z = refl
-back (query h k) z = refl
+back (rek h k) z = refl
 back (enable h c) z = refl
 back (remove h) z = refl
 back (cancel h) z = refl
@@ -88,7 +88,7 @@ arrays : (q : Request) → RequestFits q → Arrays (fieldsIn q)
 arrays (setup h n) z = arrays-with _ _ _ _ _ _ _ _ z (length-zeros 10) (length-zeros 16)
 arrays (install h r) z = arrays-with _ _ _ _ _ _ _ _ (z .0) (length-zeros 10) (z .1 .room .key-16)
 arrays (retrieve h k) z = arrays-with _ _ _ _ _ _ _ _ (z .0) (z .1) (length-zeros 16)
-arrays (query h k) z = arrays-with _ _ _ _ _ _ _ _ (z .0) (z .1) (length-zeros 16)
+arrays (rek h k) z = arrays-with _ _ _ _ _ _ _ _ (z .0) (z .1) (length-zeros 16)
 arrays (enable h c) z = arrays-with _ _ _ _ _ _ _ _ (z .0) (length-zeros 10) (length-zeros 16)
 arrays (remove h) z = arrays-with _ _ _ _ _ _ _ _ z (length-zeros 10) (length-zeros 16)
 arrays (cancel h) z = arrays-with _ _ _ _ _ _ _ _ z (length-zeros 10) (length-zeros 16)

@@ -7,7 +7,7 @@ use lib.ListN.{take, replicate}
 use Rattle.profile.specs.Bytes.{Bytes, joined, pieces}
 use Rattle.profile.specs.Slot.{Right, recount, reserved, enabled, disabled, Slot, empty, taken}
 use Rattle.profile.specs.Frame.{Refusal, parameter, notFound, duplicate, unexpected, noSpace, twoRecords}
-use Rattle.profile.specs.Request.{Request, setup, install, retrieve, query, enable, remove, cancel, list, info}
+use Rattle.profile.specs.Request.{Request, setup, install, retrieve, rek, enable, remove, cancel, list, info}
 use Rattle.profile.specs.Agent.{Given, nothing, theRight, theKey, handles, counted, Answer, deny, done, act, lowestEmpty, firstOf}
 use Rattle.profile.specs.CaseBytes.{hex, counting, H1, H2, H3, H4, H1-last, K, L, A, B, A-last, A-first, eight, five}
 use Rattle.profile.specs.CaseTables.{fifteenHandles}
@@ -100,28 +100,28 @@ installations =
 unfoldable pub lendings : List Case
 lendings =
     denies twice (retrieve H1 H4) twoRecords
-    ∷ denies thrice (query H1 H1) twoRecords
+    ∷ denies thrice (rek H1 H1) twoRecords
     -- "absent, 4; not enabled, 6": before a new handle in use
     ∷ denies full (retrieve H4 H1) notFound
-    ∷ denies full (query H4 H1) notFound
+    ∷ denies full (rek H4 H1) notFound
     ∷ denies full (retrieve H1 H2) unexpected
-    ∷ denies full (query H1 H2) unexpected
+    ∷ denies full (rek H1 H2) unexpected
     ∷ denies full (retrieve H3 H2) unexpected
-    ∷ denies full (query H3 H2) unexpected
+    ∷ denies full (rek H3 H2) unexpected
     -- whatever its key
-    ∷ denies (taken H1 (disabled zeroKey) ∷ []) (query H1 H2) unexpected
+    ∷ denies (taken H1 (disabled zeroKey) ∷ []) (rek H1 H2) unexpected
     ∷ denies (taken H1 (disabled zeroKey) ∷ []) (retrieve H1 H2) unexpected
     -- "new handle in any non-empty slot, its own included, 5"
     ∷ denies full (retrieve H2 H1) duplicate
-    ∷ denies full (query H2 H1) duplicate
+    ∷ denies full (rek H2 H1) duplicate
     ∷ denies full (retrieve H2 H2) duplicate
-    ∷ denies full (query H2 H2) duplicate
+    ∷ denies full (rek H2 H2) duplicate
     ∷ denies full (retrieve H2 H3) duplicate
-    ∷ denies full (query H2 H3) duplicate
-    ∷ denies twice (query H2 H1) duplicate
+    ∷ denies full (rek H2 H3) duplicate
+    ∷ denies twice (rek H2 H1) duplicate
     -- "The handle is overwritten, the record disabled, nothing else."
     ∷ gives full (retrieve H2 H4) (theRight both) (taken H1 (reserved 5) ∷ taken H4 (disabled both) ∷ taken H3 (disabled plain) ∷ [])
-    ∷ gives full (query H2 H4) (theKey L) (taken H1 (reserved 5) ∷ taken H4 (disabled both) ∷ taken H3 (disabled plain) ∷ [])
+    ∷ gives full (rek H2 H4) (theKey L) (taken H1 (reserved 5) ∷ taken H4 (disabled both) ∷ taken H3 (disabled plain) ∷ [])
     ∷ []
 
 -- ---- kinds 5, 6, 7 and 9

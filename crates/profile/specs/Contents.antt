@@ -8,7 +8,7 @@ use lib.ListN.{length, getElem?}
 use lib.Dec.{eqb}
 use Rattle.profile.specs.Bytes.{Bytes, if_then_else_, same}
 use Rattle.profile.specs.Slot.{Count, Right}
-use Rattle.profile.specs.Request.{Request, setup, install, retrieve, query, enable, remove, cancel, list, info}
+use Rattle.profile.specs.Request.{Request, setup, install, retrieve, rek, enable, remove, cancel, list, info}
 use Rattle.profile.specs.History.{Owned, forUse, lent, gone, Ledger, rightNumber, Exchange}
 
 -- ---- installations
@@ -23,7 +23,7 @@ abbrev pub installed : Request → List Exchange → List Installed
 installed (setup h n) xs = []
 installed (install h r) xs = record { handle = h; right = r; later = xs } ∷ []
 installed (retrieve h k) xs = []
-installed (query h k) xs = []
+installed (rek h k) xs = []
 installed (enable h c) xs = []
 installed (remove h) xs = []
 installed (cancel h) xs = []
@@ -42,7 +42,7 @@ follow h isLent c (setup g n) on = on h isLent c
 follow h isLent c (install g r) on = on h isLent c
 -- lent from its handle, it is found under the new one
 follow h isLent c (retrieve g k) on = if same g h then on k true c else on h isLent c
-follow h isLent c (query g k) on = if same g h then on k true c else on h isLent c
+follow h isLent c (rek g k) on = if same g h then on k true c else on h isLent c
 -- a return gives a lent right its count; one for use stays as it is
 follow h isLent c (enable g d) on = if same g h && isLent then on h false d else on h isLent c
 -- a right that is gone keeps the count it had

@@ -11,7 +11,7 @@ use Rattle.profile.specs.Bytes.{Bytes, same, part, any, In, over}
 use Rattle.profile.specs.Slot.{Count, Right, Entry, reserved, enabled, disabled, Slot, taken}
 use Rattle.profile.specs.Table.{slotBytes, slotsOf, wholeSlots, wellTable}
 use Rattle.profile.specs.Frame.{frame, writeRight}
-use Rattle.profile.specs.Request.{Request, setup, install, retrieve, query, enable, remove, cancel, list, info}
+use Rattle.profile.specs.Request.{Request, setup, install, retrieve, rek, enable, remove, cancel, list, info}
 use Rattle.profile.specs.Agent.{Call, agent}
 use Rattle.profile.specs.History.{open-setup, Owned, forUse, lent, Ledger, rightNumber, Exchange}
 use Rattle.profile.specs.Run.{exchangeOf, exchanges, blankTable, tableAfterAll, ledgerThen, underSlots, Agrees}
@@ -48,7 +48,7 @@ pub record Records (l : Ledger) (t : List Slot) : Type 0 where
 -- kinds 3 and 4: the request, the handle and the new handle
 pub data Lends : Request → Bytes → Bytes → Type 0 where
   by-retrieval : {h k : Bytes} → Lends (retrieve h k) h k
-  by-query : {h k : Bytes} → Lends (query h k) h k
+  by-rek : {h k : Bytes} → Lends (rek h k) h k
 
 -- on this table the call asks for the key under h with the new handle k, and has it
 pub record KeyOut (table : Bytes) (c : Call) (h k : Bytes) : Type 0 where
@@ -65,7 +65,7 @@ pub record LentOut (l l′ : Ledger) (asked : Request) (h k buffer reply : Bytes
   pub sent : part 4 16 reply ≡ right .key
   -- kind 3 sends this right whole, kind 4 its key; nothing else of the buffer is changed, so nothing of another right goes out
   pub whole : asked ≡ retrieve h k → reply ≡ over (frame 3 0 (writeRight right)) buffer
-  pub alone : asked ≡ query h k → reply ≡ over (frame 4 0 (right .key)) buffer
+  pub alone : asked ≡ rek h k → reply ≡ over (frame 4 0 (right .key)) buffer
   pub then-lent : (i : ℕ) (r : Right) → rightNumber i l ≡ some (forUse h r) → rightNumber i l′ ≡ some (lent k r)
 
 -- the key that goes out is that of the right of number i
@@ -79,7 +79,7 @@ abbrev pub isReturn : Bytes → Request → Bool
 isReturn k (setup h n) = false
 isReturn k (install h r) = false
 isReturn k (retrieve h j) = false
-isReturn k (query h j) = false
+isReturn k (rek h j) = false
 isReturn k (enable h c) = same k h
 isReturn k (remove h) = false
 isReturn k (cancel h) = false

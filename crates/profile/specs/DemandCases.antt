@@ -6,7 +6,7 @@ use mathlib.Core.Bool.{true, false}
 use lib.ListN.{take, drop, replicate}
 use Rattle.profile.specs.Bytes.{Bytes}
 use Rattle.profile.specs.Slot.{reserved, enabled, empty, taken}
-use Rattle.profile.specs.Request.{install, query, retrieve, enable, remove}
+use Rattle.profile.specs.Request.{install, rek, retrieve, enable, remove}
 use Rattle.profile.specs.Agent.{Call}
 use Rattle.profile.specs.History.{Owned, forUse, lent, gone, Ledger, blankLedger, Exchange}
 use Rattle.profile.specs.CaseBytes.{hex, changed, H1, H2, H3, H4, K, L, A, five}
@@ -36,14 +36,14 @@ later =
     ∷ asking (enable H2 3) 0
     ∷ asking (enable H2 8) 0
     ∷ asking (retrieve H2 H3) 0
-    ∷ asking (query H3 H4) 6
+    ∷ asking (rek H3 H4) 6
     ∷ asking (enable H3 2) 0
     ∷ asking (remove H1) 0
     ∷ asking (install H1 other) 7
     ∷ []
 
 abbrev pub exchanged : List Exchange
-exchanged = asking (install H1 plain) 0 ∷ asking (query H1 H2) 0 ∷ later
+exchanged = asking (install H1 plain) 0 ∷ asking (rek H1 H2) 0 ∷ later
 
 -- ---- these are what the definitions say
 pub record Hold : Type 0 where
@@ -61,7 +61,7 @@ pub record Hold : Type 0 where
   pub other-payload : ¬ Contents (asking (install H1 plain) 0 ∷ []) (ledgerOf (lent H1 (record { key = K; count = 7; hashes = []; payload = hex "BC" }) ∷ []))
   pub other-count : ¬ Contents (asking (install H1 plain) 0 ∷ []) (ledgerOf (gone (record { key = K; count = 8; hashes = []; payload = five }) ∷ []))
   -- kinds 4 and 3 send a key
-  pub by-query : KeyOut after7 (calling (hex "24 80 00 14" ++ H1 ++ H2)) H1 H2
+  pub by-rek : KeyOut after7 (calling (hex "24 80 00 14" ++ H1 ++ H2)) H1 H2
   pub by-retrieval : KeyOut hashed2 (calling (hex "23 80 00 14" ++ H3 ++ H4)) H3 H4
   -- but not where they are refused, nor does another kind
   pub absent : ¬ KeyOut after9 (calling (hex "24 80 00 14" ++ H1 ++ H2)) H1 H2
@@ -72,8 +72,8 @@ pub record Hold : Type 0 where
   -- the installations that succeeded, and the count that the first of them, and one lent under H3, has at the end
   pub sent : map (λ p. p .right) (installations exchanged) ≡ plain ∷ plain ∷ []
   pub named : map (λ p. p .handle) (installations exchanged) ≡ H1 ∷ H1 ∷ []
-  pub behind : map (λ p. p .later) (installations exchanged) ≡ (asking (query H1 H2) 0 ∷ later) ∷ drop 1 later ∷ []
-  pub last-counts : lastCount H1 false 7 (asking (query H1 H2) 0 ∷ later) ∷ lastCount H1 false 7 (drop 1 later) ∷ lastCount H3 true 7 later ∷ lastCount H2 false 7 [] ∷ [] ≡ 2 ∷ 7 ∷ 2 ∷ 7 ∷ []
+  pub behind : map (λ p. p .later) (installations exchanged) ≡ (asking (rek H1 H2) 0 ∷ later) ∷ drop 1 later ∷ []
+  pub last-counts : lastCount H1 false 7 (asking (rek H1 H2) 0 ∷ later) ∷ lastCount H1 false 7 (drop 1 later) ∷ lastCount H3 true 7 later ∷ lastCount H2 false 7 [] ∷ [] ≡ 2 ∷ 7 ∷ 2 ∷ 7 ∷ []
   -- a return that is sent again gives no count; nor does one under the handle of a right that is gone
   pub sent-again : lastCount H2 true 7 (take 4 later) ≡ 3
   pub no-longer : lastCount H1 true 7 (asking (remove H1) 0 ∷ asking (enable H1 3) 0 ∷ []) ≡ 7

@@ -7,7 +7,7 @@ use lib.ListN.{take, replicate}
 use Rattle.profile.specs.Bytes.{Bytes}
 use Rattle.profile.specs.Slot.{Right, reserved, enabled, disabled, empty, taken}
 use Rattle.profile.specs.Frame.{parameter}
-use Rattle.profile.specs.Request.{Request, setup, install, retrieve, query, enable, remove, cancel, list, info, asks, refused, noFrame}
+use Rattle.profile.specs.Request.{Request, setup, install, retrieve, rek, enable, remove, cancel, list, info, asks, refused, noFrame}
 use Rattle.profile.specs.Agent.{Call}
 use Rattle.profile.specs.History.{open-setup, forUse, lent, gone, Ledger, blankLedger, rightNumber, Exchange, told, history}
 use Rattle.profile.specs.Run.{exchange, exchanges, blankTable, tableAfterAll, ledgerThen, underSlots, underLedger, Agrees}
@@ -43,8 +43,8 @@ tellings =
     ∷ record { request = install H3 plain; status = 0; after = record { setups = open-setup H4 9 ∷ []; rights = forUse H1 plain ∷ lent H2 other ∷ gone plain ∷ forUse H3 plain ∷ [] } }
     ∷ record { request = install H4 other; status = 0; after = record { setups = open-setup H3 5 ∷ []; rights = forUse H1 plain ∷ lent H2 other ∷ gone plain ∷ forUse H4 other ∷ [] } }
     ∷ record { request = retrieve H1 H1-last; status = 0; after = record { setups = open-setup H3 5 ∷ open-setup H4 9 ∷ []; rights = lent H1-last plain ∷ lent H2 other ∷ gone plain ∷ [] } }
-    ∷ record { request = query H1 H1-last; status = 0; after = record { setups = open-setup H3 5 ∷ open-setup H4 9 ∷ []; rights = lent H1-last plain ∷ lent H2 other ∷ gone plain ∷ [] } }
-    ∷ record { request = query H1-last H1; status = 0; after = before }
+    ∷ record { request = rek H1 H1-last; status = 0; after = record { setups = open-setup H3 5 ∷ open-setup H4 9 ∷ []; rights = lent H1-last plain ∷ lent H2 other ∷ gone plain ∷ [] } }
+    ∷ record { request = rek H1-last H1; status = 0; after = before }
     -- "the right under the handle", whichever it is
     ∷ record { request = retrieve H2 H1-last; status = 0; after = record { setups = open-setup H3 5 ∷ open-setup H4 9 ∷ []; rights = forUse H1 plain ∷ lent H1-last other ∷ gone plain ∷ [] } }
     ∷ record { request = enable H2 3; status = 0; after = record { setups = open-setup H3 5 ∷ open-setup H4 9 ∷ []; rights = forUse H1 plain ∷ forUse H2 other3 ∷ gone plain ∷ [] } }
@@ -62,7 +62,7 @@ tellings =
     ∷ record { request = setup H1-last 6; status = 7; after = before }
     ∷ record { request = install H3 plain; status = 1; after = before }
     ∷ record { request = retrieve H1 H2; status = 5; after = before }
-    ∷ record { request = query H2 H1-last; status = 6; after = before }
+    ∷ record { request = rek H2 H1-last; status = 6; after = before }
     ∷ record { request = enable H2 3; status = 4; after = before }
     ∷ record { request = remove H1; status = 8; after = before }
     ∷ record { request = cancel H3; status = 255; after = before }
@@ -91,10 +91,10 @@ abbrev pub run : List Exchange
 run =
     asking (setup H1 5) 0
     ∷ asking (install H1 plain) 0
-    ∷ asking (query H1 H2) 0
+    ∷ asking (rek H1 H2) 0
     ∷ asking (setup H1 5) 0
     ∷ asking (install H1 plain) 0
-    ∷ asking (query H2 H3) 6
+    ∷ asking (rek H2 H3) 6
     ∷ []
 
 -- how it might go on: the return, twice, a lending by kind 3, a removal, a setup cancelled and one that stays

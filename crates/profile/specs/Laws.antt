@@ -31,10 +31,10 @@ FoundIs h t (one i e) = getElem? t i ≡ some (taken h e)
 
 -- "The lowest empty slot becomes reserved": of the slots t, the one that a setup takes is empty, no lower one is, and it alone is changed
 pub record SetsLowest (t : List Slot) (h : Bytes) (n : ℕ) (u : List Slot) : Type 0 where
-  pub place : ℕ
-  pub is-empty : getElem? t place ≡ some empty
-  pub none-lower : (i : ℕ) → i < place → getElem? t i ≡ some empty → ⊥
-  pub after : u ≡ set t place (taken h (reserved n))
+  pub free : ℕ
+  pub is-empty : getElem? t free ≡ some empty
+  pub none-lower : (i : ℕ) → i < free → getElem? t i ≡ some empty → ⊥
+  pub after : u ≡ set t free (taken h (reserved n))
 
 -- ---- kind 8
 -- a right has "some hash of the request", or none was asked for

@@ -6,8 +6,8 @@ use Prim.Native.Nat.{ℕ}
 use mathlib.Core.Bool.{Bool, true, false}
 use lib.ListN.{take, replicate}
 use Rattle.profile.specs.Bytes.{Bytes, joined}
-use Rattle.profile.specs.Frame.{Kind, Setup, Install, Retrieve, Query, Enable, Remove, Cancel, List', Info, versionHolds, kindNumber, hashCountAt18, Refusal, integrity, parameter, unsupported}
-use Rattle.profile.specs.Request.{Request, setup, install, retrieve, query, enable, remove, cancel, list, info, Read, asks, refused, noFrame, verdict, zeroBits, bodyFits, readRequest, writeRequest}
+use Rattle.profile.specs.Frame.{Kind, Setup, Install, Retrieve, Rek, Enable, Remove, Cancel, List', Info, versionHolds, kindNumber, hashCountAt18, Refusal, integrity, parameter, unsupported}
+use Rattle.profile.specs.Request.{Request, setup, install, retrieve, rek, enable, remove, cancel, list, info, Read, asks, refused, noFrame, verdict, zeroBits, bodyFits, readRequest, writeRequest}
 use Rattle.profile.specs.CaseBytes.{hex, sized, h, n, key, p, q, eight, eightHashes}
 
 -- a frame, and what it is read as
@@ -32,7 +32,7 @@ requests =
     ∷ reads (hex "22 80 00 33" ++ h ++ key ++ hex "31 32 10" ++ p ++ hex "51 52") (install h (record { key = key; count = 0x3132; hashes = p ∷ []; payload = hex "51 52" }))
     ∷ reads (hex "22 80 00 47" ++ h ++ key ++ hex "00 00 20" ++ p ++ q ++ hex "00 52") (install h (record { key = key; count = 0; hashes = p ∷ q ∷ []; payload = hex "00 52" }))
     ∷ reads (hex "23 80 00 14" ++ h ++ n) (retrieve h n)
-    ∷ reads (hex "24 80 00 14" ++ h ++ n) (query h n)
+    ∷ reads (hex "24 80 00 14" ++ h ++ n) (rek h n)
     ∷ reads (hex "25 80 00 0C" ++ h ++ hex "31 32") (enable h 0x3132)
     ∷ reads (hex "26 80 00 0A" ++ h) (remove h)
     ∷ reads (hex "27 80 00 0A" ++ h) (cancel h)
@@ -205,7 +205,7 @@ bodies =
     (Setup, 10 ∷ 11 ∷ 12 ∷ 13 ∷ [], false ∷ false ∷ true ∷ false ∷ [])
     ∷ (Install, 28 ∷ 29 ∷ 30 ∷ 31 ∷ 5000 ∷ [], false ∷ false ∷ true ∷ true ∷ true ∷ [])
     ∷ (Retrieve, 19 ∷ 20 ∷ 21 ∷ [], false ∷ true ∷ false ∷ [])
-    ∷ (Query, 19 ∷ 20 ∷ 21 ∷ [], false ∷ true ∷ false ∷ [])
+    ∷ (Rek, 19 ∷ 20 ∷ 21 ∷ [], false ∷ true ∷ false ∷ [])
     ∷ (Enable, 11 ∷ 12 ∷ 13 ∷ [], false ∷ true ∷ false ∷ [])
     ∷ (Remove, 9 ∷ 10 ∷ 11 ∷ [], false ∷ true ∷ false ∷ [])
     ∷ (Cancel, 9 ∷ 10 ∷ 11 ∷ [], false ∷ true ∷ false ∷ [])

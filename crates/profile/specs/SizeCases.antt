@@ -3,7 +3,7 @@ use mathlib.Core.List.{List, [], _∷_}
 use lib.ListN.{replicate}
 use Rattle.profile.specs.Bytes.{Bytes}
 use Rattle.profile.specs.Slot.{Right, reserved, enabled, disabled, empty, taken, RightFits, SlotFits, TableFits}
-use Rattle.profile.specs.Request.{setup, install, retrieve, query, enable, remove, cancel, list, info, RequestFits}
+use Rattle.profile.specs.Request.{setup, install, retrieve, rek, enable, remove, cancel, list, info, RequestFits}
 use Rattle.profile.specs.CaseBytes.{hex, H1, H2, K, A, B}
 
 -- a right of these
@@ -65,7 +65,7 @@ pub record Hold : Type 0 where
   pub setup-fits : RequestFits (setup H1 0)
   pub install-fits : RequestFits (install H1 most)
   pub retrieve-fits : RequestFits (retrieve H1 H1)
-  pub query-fits : RequestFits (query H1 H2)
+  pub rek-fits : RequestFits (rek H1 H2)
   pub enable-fits : RequestFits (enable H1 65535)
   pub remove-fits : RequestFits (remove H1)
   pub cancel-fits : RequestFits (cancel H1)
@@ -76,8 +76,8 @@ pub record Hold : Type 0 where
   pub install-0 : ¬ RequestFits (install H1 (of K [] []))
   pub retrieve-9 : ¬ RequestFits (retrieve H9 H2)
   pub retrieve-11 : ¬ RequestFits (retrieve H1 H11)
-  pub query-9 : ¬ RequestFits (query H9 H2)
-  pub query-11 : ¬ RequestFits (query H1 H11)
+  pub rek-9 : ¬ RequestFits (rek H9 H2)
+  pub rek-11 : ¬ RequestFits (rek H1 H11)
   pub enable-9 : ¬ RequestFits (enable H9 3)
   pub remove-9 : ¬ RequestFits (remove H9)
   pub cancel-11 : ¬ RequestFits (cancel H11)

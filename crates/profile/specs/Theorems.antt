@@ -94,8 +94,8 @@ pub record Theorems : Type 0 where
   pub found-is : (h : Bytes) (t : List Slot) → FoundIs h t (find h t)
   pub sets-lowest : (t : List Slot) (h : Bytes) (n : ℕ) (g : Given) (u : List Slot) → act (lowestEmpty t) t (setup h n) ≡ done g u → SetsLowest t h n u
   pub sets-only : (t : List Slot) (h : Bytes) (n : ℕ) (u : List Slot) → SetsLowest t h n u → u ≡ set t (lowestEmpty t) (taken h (reserved n))
-  pub lists-exactly : (place : ℕ) (t : List Slot) (limit : ℕ) (q : List Bytes) → (g : Given) × (act place t (list limit q) ≡ done g t) × ListsExactly limit q t g
-  pub lists-only : (place : ℕ) (t : List Slot) (limit : ℕ) (q : List Bytes) (g : Given) → ListsExactly limit q t g → act place t (list limit q) ≡ done g t
+  pub lists-exactly : (free : ℕ) (t : List Slot) (limit : ℕ) (q : List Bytes) → (g : Given) × (act free t (list limit q) ≡ done g t) × ListsExactly limit q t g
+  pub lists-only : (free : ℕ) (t : List Slot) (limit : ℕ) (q : List Bytes) (g : Given) → ListsExactly limit q t g → act free t (list limit q) ≡ done g t
   -- "Examples", and every rule in worked cases, table by table
   pub bytes-hold : BytesCases.Hold
   pub sizes-hold : SizeCases.Hold

@@ -7,8 +7,8 @@ use Rattle.profile.specs.Table.{rightOf, slotCount, slotsOf}
 use Rattle.profile.specs.Frame.{Refusal, notFound, unexpected, twoRecords, code, frame}
 use Rattle.profile.specs.Request.{info}
 use Rattle.profile.specs.Agent.{Answer, deny, done, infoAt, onRecord, act, replyFrame, writeGiven}
-use Rattle.replies.specs.Written.{infoOf}
-use Rattle.replies.proofs.Frames.{deny-frame, done-frame}
+use Rattle.reply_writer.specs.Written.{infoOf}
+use Rattle.reply_writer.proofs.Frames.{deny-frame, done-frame}
 use Rattle.slots.specs.declared.place.Place.{Place}
 use Rattle.slots.specs.declared.place.Place.the-variants.{Empty, Reserved, Enabled, Disabled}
 use Rattle.tables.specs.declared.lookup.Lookup.the-variants.{Absent, Two, At}

@@ -46,13 +46,13 @@ pub fn info(table: &[u8], reply: &mut [u8], h: [u8; 10])
     ensures { λ _. ⌜ now (reply .exit) ≡ replyTo 9 (info h) (now (table .entry)) (now (reply .entry)) ⌝ }
 {
     match tables::lookup::look_up(table, h) {
-        Lookup::Absent => replies::writer::reply_status(reply, 9, NOT_FOUND),
-        Lookup::Two => replies::writer::reply_status(reply, 9, TWO_RECORDS),
+        Lookup::Absent => reply_writer::writer::reply_status(reply, 9, NOT_FOUND),
+        Lookup::Two => reply_writer::writer::reply_status(reply, 9, TWO_RECORDS),
         Lookup::At(i, place) => {
             let Place::Enabled = place else {
-                return replies::writer::reply_status(reply, 9, UNEXPECTED);
+                return reply_writer::writer::reply_status(reply, 9, UNEXPECTED);
             };
-            replies::writer::reply_info(reply, tables::part::slot_at(table, i));
+            reply_writer::writer::reply_info(reply, tables::part::slot_at(table, i));
         }
     }
 }

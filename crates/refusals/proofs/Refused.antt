@@ -10,9 +10,9 @@ use Rattle.profile.specs.Frame.{kindNumber, frame, isFrame, versionHolds, kindO
 use Rattle.profile.specs.Request.{Read, asks, refused, noFrame, zeroBits, readKind, readRequest}
 use Rattle.profile.specs.Agent.{replyFrame}
 use Rattle.profile.proofs.Logic.{and-parts, leb-le, if-else, not-false}
-use Rattle.requests.specs.declared.asked.Why.{Why}
-use Rattle.requests.specs.declared.asked.Why.the-variants.{NoFrame}
-use Rattle.requests.specs.Answer.{whyMeans}
+use Rattle.request_reader.specs.declared.asked.Why.{Why}
+use Rattle.request_reader.specs.declared.asked.Why.the-variants.{NoFrame}
+use Rattle.request_reader.specs.Answer.{whyMeans}
 use Rattle.refusals.specs.Refusing.{Refuses}
 
 -- only a frame of four bytes or more has a status

@@ -6,9 +6,9 @@ use Rattle.profile.specs.Bytes.{Bytes}
 use Rattle.profile.specs.Slot.{Slot}
 use Rattle.profile.specs.Frame.{kindNumber}
 use Rattle.profile.specs.Agent.{obey}
-use Rattle.requests.specs.declared.asked.Why.{Why}
-use Rattle.requests.specs.Answer.{whyMeans}
+use Rattle.request_reader.specs.declared.asked.Why.{Why}
+use Rattle.request_reader.specs.Answer.{whyMeans}
 
 -- a frame that is no request: the number and the reply are the profile's, on every table, which stays as it is
 pub record Refuses (f : Bytes) (w : Why) (buffer : Bytes) (n : ℕ) (buffer' : Bytes) : Type 0 where
-  pub on-any : (place : ℕ) (t : List Slot) (table : Bytes) → record { number = n; reply = buffer'; table = table } ≡ obey (kindNumber f) (whyMeans w) place t table buffer
+  pub on-any : (free : ℕ) (t : List Slot) (table : Bytes) → record { number = n; reply = buffer'; table = table } ≡ obey (kindNumber f) (whyMeans w) free t table buffer

@@ -1,5 +1,5 @@
 // What is answered to a frame that is no request.
-use requests::asked::Why;
+use request_reader::asked::Why;
 ghost use mathlib.Core.Path.{_≡_};
 ghost use mathlib.Core.List.{[]};
 ghost use Prim.Native.Nat.{_≤_};
@@ -7,7 +7,7 @@ ghost use lib.ListN.{length};
 ghost use Rattle.profile.specs.Bytes.{over};
 ghost use Rattle.profile.specs.Frame.{kindNumber, frame as frameOf};
 ghost use Rattle.profile.specs.Request.{readRequest};
-ghost use Rattle.requests.specs.Answer.{whyMeans};
+ghost use Rattle.request_reader.specs.Answer.{whyMeans};
 ghost use Rattle.refusals.specs.Refusing.{Refuses};
 
 // Statuses of a frame that is no request.
@@ -22,7 +22,7 @@ fn refuse_with(frame: &[u8], reply: &mut [u8], status: u8) -> u16
     requires { ⌜ (4 ≤ length (now frame)) × (4279 ≤ length (now reply)) ⌝ }
     ensures { λ r. ⌜ (r ≡ 0) × (now (reply .exit) ≡ over (frameOf (kindNumber (now (frame .entry))) status []) (now (reply .entry))) ⌝ }
 {
-    replies::writer::reply_status(reply, bits::fields::frame_kind(frame[0]), status);
+    reply_writer::writer::reply_status(reply, bits::fields::frame_kind(frame[0]), status);
     0
 }
 

@@ -10,7 +10,7 @@ use lib.ListN.{length, drop, length-drop}
 use lib.Seq.{drop-drop, take-all}
 use Rattle.profile.specs.Bytes.{Bytes, if_then_else_, byte, part, word, pieces}
 use Rattle.profile.specs.Slot.{Count}
-use Rattle.profile.specs.Frame.{Kind, Setup, Install, Retrieve, Query, Enable, Remove, Cancel, List', Info, kindOf, lastStatus, isFrame, versionHolds, kindNumber, body, statusIn, hashCountAt18}
+use Rattle.profile.specs.Frame.{Kind, Setup, Install, Retrieve, Rek, Enable, Remove, Cancel, List', Info, kindOf, lastStatus, isFrame, versionHolds, kindNumber, body, statusIn, hashCountAt18}
 use Rattle.profile.specs.Request.{numberOf, fields}
 use Rattle.profile.specs.Agent.{Given, nothing, theRight, theKey, handles, counted}
 use Rattle.profile.specs.Device.{none?, shaped, given, gave, readSuccess, readReply}
@@ -52,7 +52,7 @@ module _ (f : Bytes) where
           sum : 4 + (19 + 20 * (byte 22 f / 16)) ≡ payloadFrom f
           sum = omega arith
 
-  key-given : shaped Query f ≡ true → theKey (part 4 16 f) ≡ given Query f
+  key-given : shaped Rek f ≡ true → theKey (part 4 16 f) ≡ given Rek f
   key-given s = ap theKey (take-all 16 (body f) (rw (length-drop 4 f) (omega (arith, key-room f s))))
 
   list-given : shaped List' f ≡ true → handles (eqb (byte 4 f / 128) 1) (pieces 10 ((length f - 5) / 10) (drop 5 f)) ≡ given List' f
@@ -78,7 +78,7 @@ module _ (f : Bytes) where
   of-kind Setup n s = ap (λ (k : ℕ). gave k nothing) n
   of-kind Install n s = ap (λ (k : ℕ). gave k nothing) n
   of-kind Retrieve n s = ap₂ (λ (k : ℕ) (g : Given). gave k g) n right-given
-  of-kind Query n s = ap₂ (λ (k : ℕ) (g : Given). gave k g) n (key-given s)
+  of-kind Rek n s = ap₂ (λ (k : ℕ) (g : Given). gave k g) n (key-given s)
   of-kind Enable n s = ap (λ (k : ℕ). gave k nothing) n
   of-kind Remove n s = ap (λ (k : ℕ). gave k nothing) n
   of-kind Cancel n s = ap (λ (k : ℕ). gave k nothing) n

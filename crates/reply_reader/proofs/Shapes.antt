@@ -9,7 +9,7 @@ use lib.ListN.{length, length-drop}
 use lib.Seq.{getD-drop}
 use borrow.Author.Tests.{eqb-true, eqb-false, leb-true, leb-false, eq-eqb, ne-eqb, le-ltb, le-leb, lt-leb}
 use Rattle.profile.specs.Bytes.{Bytes, byte, word}
-use Rattle.profile.specs.Frame.{isFrame, versionHolds, body, rightFits, Retrieve, Query, List', Info}
+use Rattle.profile.specs.Frame.{isFrame, versionHolds, body, rightFits, Retrieve, Rek, List', Info}
 use Rattle.profile.specs.Device.{none?, shaped}
 use Rattle.profile.proofs.Logic.{and-parts}
 use Rattle.reply_reader.specs.Told.{payloadFrom}
@@ -84,10 +84,10 @@ module _ (f : Bytes) where
       tests : ((leb (byte 22 f / 16) 8 && eqb (byte 22 f % 16) 0 && ltb (payloadFrom f) (length f)) ≡ true) × (leb (length f) (payloadFrom f + 4096) ≡ true)
       tests = and-parts (leb (byte 22 f / 16) 8 && eqb (byte 22 f % 16) 0 && ltb (payloadFrom f) (length f)) (leb (length f) (payloadFrom f + 4096)) (right-tests long refl refl ∙ e)
 
-  pub key-tests : eqb (length f) 20 ≡ shaped Query f
+  pub key-tests : eqb (length f) 20 ≡ shaped Rek f
   key-tests = eqb-same (length f) 20 (length (body f)) 16 (λ h. rw body-length (omega arith)) (λ h. omega (arith, body-length))
 
-  pub key-room : shaped Query f ≡ true → length f ≡ 20
+  pub key-room : shaped Rek f ≡ true → length f ≡ 20
   key-room e = eqb-true (length f) 20 (key-tests ∙ e)
 
   pub list-short : length f < 5 → false ≡ shaped List' f

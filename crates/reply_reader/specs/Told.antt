@@ -7,7 +7,7 @@ use lib.ListN.{length, drop, replicate}
 use lib.Dec.{eqb, ltb}
 use Rattle.profile.specs.Bytes.{Bytes, if_then_else_, byte, part, word, pieces}
 use Rattle.profile.specs.Slot.{hashSize}
-use Rattle.profile.specs.Frame.{Kind, Setup, Install, Retrieve, Query, Enable, Remove, Cancel, List', Info, kindOf, lastStatus, isFrame, versionHolds, kindNumber, body, statusIn}
+use Rattle.profile.specs.Frame.{Kind, Setup, Install, Retrieve, Rek, Enable, Remove, Cancel, List', Info, kindOf, lastStatus, isFrame, versionHolds, kindNumber, body, statusIn}
 use Rattle.profile.specs.Agent.{nothing, theRight, theKey, handles, counted}
 use Rattle.profile.specs.Device.{none?, shaped, Reply, malformed, failed, gave, readReply}
 use Rattle.reply_reader.specs.declared.answer.Answer.{Answer}
@@ -76,7 +76,7 @@ abbrev pub toldShaped : Kind → Bytes → Told
 toldShaped Setup f = keyless (Nothing 1)
 toldShaped Install f = keyless (Nothing 2)
 toldShaped Retrieve f = rightIn f
-toldShaped Query f = keyIn f
+toldShaped Rek f = keyIn f
 toldShaped Enable f = keyless (Nothing 5)
 toldShaped Remove f = keyless (Nothing 6)
 toldShaped Cancel f = keyless (Nothing 7)

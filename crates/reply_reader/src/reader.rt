@@ -4,7 +4,7 @@ use crate::answer::Told;
 ghost use mathlib.Core.Path.{_≡_};
 ghost use Prim.Native.Nat.{_≤_};
 ghost use lib.ListN.{length};
-ghost use Rattle.profile.specs.Frame.{kindOf, Retrieve, Query, List', Info};
+ghost use Rattle.profile.specs.Frame.{kindOf, Retrieve, Rek, List', Info};
 ghost use Rattle.reply_reader.specs.Told.{keyless, unread, toldEmpty, payloadFrom, rightIn, keyIn, listIn, infoIn, toldOf, toldSuccess, told, Reads};
 
 // An answer without a key.
@@ -40,7 +40,7 @@ fn right_in(f: &[u8]) -> Told
     ensures { λ r. ⌜ r ≡ rightIn (now (f .entry)) ⌝ }
 {
     let key = octets::arrays::key_at(f, 4);
-    let hashes = crate::shape::wide8(bits::fields::count_of(f[22]));
+    let hashes = crate::shape::wide8(bits::fields::hash_count_of(f[22]));
     let at = 23 + 20 * hashes;
     Told {
         answer: Answer::Right {
@@ -65,7 +65,7 @@ fn read_right(f: &[u8]) -> Told
 
 // Kind 4: the key.
 fn read_key(f: &[u8]) -> Told
-    ensures { λ r. ⌜ r ≡ toldOf Query (now (f .entry)) ⌝ }
+    ensures { λ r. ⌜ r ≡ toldOf Rek (now (f .entry)) ⌝ }
 {
     if !crate::shape::is_key(f) {
         return malformed();

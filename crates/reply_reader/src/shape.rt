@@ -1,7 +1,7 @@
 // The reply reader's tests: "length, version and zero bits are right", and the body "of its kind's shape".
 ghost use mathlib.Core.Path.{_≡_};
 ghost use mathlib.Core.Bool.{_&&_};
-ghost use Rattle.profile.specs.Frame.{isFrame, versionHolds, body, Retrieve, Query, List', Info};
+ghost use Rattle.profile.specs.Frame.{isFrame, versionHolds, body, Retrieve, Rek, List', Info};
 ghost use Rattle.profile.specs.Device.{none?, shaped};
 
 pub fn wide8(n: u8) -> usize
@@ -41,15 +41,15 @@ pub fn is_right(f: &[u8]) -> bool
     if f.len() < 24 {
         return false;
     }
-    let hashes = wide8(bits::fields::count_of(f[22]));
-    let rest = bits::fields::count_rest(f[22]);
+    let hashes = wide8(bits::fields::hash_count_of(f[22]));
+    let rest = bits::fields::hash_count_rest(f[22]);
     let at = 23 + 20 * hashes;
     (hashes <= 8) & (rest == 0) & (at < f.len()) & (f.len() <= at + 4096)
 }
 
 // Kind 4: a key of 16 bytes.
 pub fn is_key(f: &[u8]) -> bool
-    ensures { λ r. ⌜ r ≡ shaped Query (now (f .entry)) ⌝ }
+    ensures { λ r. ⌜ r ≡ shaped Rek (now (f .entry)) ⌝ }
 {
     f.len() == 20
 }

@@ -12,8 +12,8 @@ use Rattle.profile.specs.Request.{asks, readRequest, writeRequest}
 use Rattle.profile.specs.Device.{Fields, requestOf, Arrays, Written, write}
 use Rattle.profile.specs.Theorems.{ReadsBack}
 use Rattle.profile.proofs.Writer.{written-reads}
-use Rattle.requests.specs.declared.asked.Asked.{Asked}
-use Rattle.requests.specs.Answer.{meaning, Answers}
+use Rattle.request_reader.specs.declared.asked.Asked.{Asked}
+use Rattle.request_reader.specs.Answer.{meaning, Answers}
 use Rattle.request_writer.specs.Writing.{wrote}
 
 -- the first `size` bytes of the buffer y read back to the fields f, and the others are those of d

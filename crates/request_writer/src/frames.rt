@@ -122,7 +122,7 @@ pub fn write_right(out: &mut [u8], p: Plain, n: u8, hashes: &[u8], payload: &[u8
         handle,
         key,
         p.count,
-        bits::fields::count_byte(n),
+        bits::fields::hash_count_byte(n),
     );
     buffers::put_bytes(out, 33, hashes);
     buffers::put_bytes(out, behind, payload);

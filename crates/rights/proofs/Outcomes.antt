@@ -12,7 +12,7 @@ use Rattle.profile.specs.Bytes.{Bytes, part, Bytes256}
 use Rattle.profile.specs.Slot.{Count, Right, recount, reserved, enabled, disabled, Slot, empty, taken, inUse}
 use Rattle.profile.specs.Table.{rightOf, slotsOf}
 use Rattle.profile.specs.Frame.{duplicate}
-use Rattle.profile.specs.Request.{retrieve, query, enable, remove}
+use Rattle.profile.specs.Request.{retrieve, rek, enable, remove}
 use Rattle.profile.specs.Agent.{Given, nothing, theRight, theKey, done, onRecord, lendAt, enableAt, removeAt, act}
 use Rattle.slots.specs.declared.place.Place.{Place}
 use Rattle.slots.specs.declared.place.Place.the-variants.{Empty, Reserved, Enabled, Disabled}
@@ -115,9 +115,9 @@ module _ (T B h : Bytes) (bytes : Bytes256 T) (r : Ready T B) (d : Decision) whe
     unfolding act
     retrieve-refused = lend-refused theRight
 
-    pub query-refused : (n : ℕ) → d ≡ Refuse n → Denied n (answerTo T (query h k))
+    pub rek-refused : (n : ℕ) → d ≡ Refuse n → Denied n (answerTo T (rek h k))
     unfolding act
-    query-refused = lend-refused (λ x. theKey (x .key))
+    rek-refused = lend-refused (λ x. theKey (x .key))
 
     module _ (i : ℕ) (o : Place) (q : d ≡ Change i o) where
       lendable-at : (inUse k u ≡ false) × (decided lendable (lookUp h u) ≡ Change i o)
@@ -134,6 +134,6 @@ module _ (T B h : Bytes) (bytes : Bytes256 T) (r : Ready T B) (d : Decision) whe
       unfolding act
       retrieves = lends theRight
 
-      pub queries : answerTo T (query h k) ≡ done (theKey (rightOf (slotAt T i) .key)) (set u i (taken k (disabled (rightOf (slotAt T i)))))
+      pub queries : answerTo T (rek h k) ≡ done (theKey (rightOf (slotAt T i) .key)) (set u i (taken k (disabled (rightOf (slotAt T i)))))
       unfolding act
       queries = lends (λ x. theKey (x .key))

@@ -12,14 +12,14 @@ pub fn enable(table: &mut [u8], reply: &mut [u8], h: [u8; 10], count: u16)
     ensures { λ _. ⌜ Serves 5 (answerTo (now (table .entry)) (enablement h count)) (now (table .entry)) (now (reply .entry)) (now (table .exit)) (now (reply .exit)) ⌝ }
 {
     match decisions::decision::slot_under(table, h, INSTALLED) {
-        Decision::Refuse(status) => replies::writer::reply_status(reply, 5, status),
+        Decision::Refuse(status) => reply_writer::writer::reply_status(reply, 5, status),
         Decision::Change(i, place) => {
             let Place::Disabled = place else {
-                replies::writer::reply_status(reply, 5, 0);
+                reply_writer::writer::reply_status(reply, 5, 0);
                 return;
             };
             changes::give_back(table, i, count);
-            replies::writer::reply_status(reply, 5, 0)
+            reply_writer::writer::reply_status(reply, 5, 0)
         }
     }
 }

@@ -10,10 +10,10 @@ pub fn remove(table: &mut [u8], reply: &mut [u8], h: [u8; 10])
     ensures { λ _. ⌜ Serves 6 (answerTo (now (table .entry)) (removal h)) (now (table .entry)) (now (reply .entry)) (now (table .exit)) (now (reply .exit)) ⌝ }
 {
     match decisions::decision::slot_under(table, h, INSTALLED) {
-        Decision::Refuse(status) => replies::writer::reply_status(reply, 6, status),
+        Decision::Refuse(status) => reply_writer::writer::reply_status(reply, 6, status),
         Decision::Change(i, _) => {
             changes::clear_slot(table, i);
-            replies::writer::reply_status(reply, 6, 0)
+            reply_writer::writer::reply_status(reply, 6, 0)
         }
     }
 }

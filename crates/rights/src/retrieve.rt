@@ -10,9 +10,9 @@ pub fn retrieve(table: &mut [u8], reply: &mut [u8], h: [u8; 10], k: [u8; 10])
     ensures { λ _. ⌜ Serves 3 (answerTo (now (table .entry)) (retrieval h k)) (now (table .entry)) (now (reply .entry)) (now (table .exit)) (now (reply .exit)) ⌝ }
 {
     match decisions::lending::slot_to_lend(table, h, k) {
-        Decision::Refuse(status) => replies::writer::reply_status(reply, 3, status),
+        Decision::Refuse(status) => reply_writer::writer::reply_status(reply, 3, status),
         Decision::Change(i, _) => {
-            replies::writer::reply_right(reply, tables::part::slot_at(table, i));
+            reply_writer::writer::reply_right(reply, tables::part::slot_at(table, i));
             changes::relabel(table, i, k)
         }
     }

@@ -23,15 +23,15 @@ pub fn install(
     ensures { λ _. ⌜ Serves 2 (answerTo (now (table .entry)) (installation h (rightFrom key count hashes size (now (frame .entry)) at))) (now (table .entry)) (now (reply .entry)) (now (table .exit)) (now (reply .exit)) ⌝ }
 {
     match decisions::decision::slot_under(table, h, AWAITED) {
-        Decision::Refuse(status) => replies::writer::reply_status(reply, 2, status),
+        Decision::Refuse(status) => reply_writer::writer::reply_status(reply, 2, status),
         Decision::Change(i, _) => {
             let room = words::word_at(tables::part::slot_at(table, i), 29) as usize;
             if room < size {
-                replies::writer::reply_status(reply, 2, 7);
+                reply_writer::writer::reply_status(reply, 2, 7);
                 return;
             }
             changes::store_right(table, i, h, key, count, hashes, frame, at, size);
-            replies::writer::reply_status(reply, 2, 0)
+            reply_writer::writer::reply_status(reply, 2, 0)
         }
     }
 }

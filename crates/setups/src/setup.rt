@@ -9,18 +9,18 @@ pub fn set_up(table: &mut [u8], reply: &mut [u8], h: [u8; 10], n: u16)
     ensures { λ _. ⌜ Serves 1 (answerTo (now (table .entry)) (asking h n)) (now (table .entry)) (now (reply .entry)) (now (table .exit)) (now (reply .exit)) ⌝ }
 {
     if n == 0 {
-        replies::writer::reply_status(reply, 1, 2);
+        reply_writer::writer::reply_status(reply, 1, 2);
         return;
     }
     if tables::handle::in_use(table, h) {
-        replies::writer::reply_status(reply, 1, 5);
+        reply_writer::writer::reply_status(reply, 1, 5);
         return;
     }
     let i = tables::room::lowest_empty(table);
     if (4096 < n) | (table.len() / 4288 <= i) {
-        replies::writer::reply_status(reply, 1, 7);
+        reply_writer::writer::reply_status(reply, 1, 7);
         return;
     }
     changes::store_reservation(table, i, h, n);
-    replies::writer::reply_status(reply, 1, 0);
+    reply_writer::writer::reply_status(reply, 1, 0);
 }

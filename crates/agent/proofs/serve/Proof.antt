@@ -3,11 +3,11 @@ use denote.Ref.{now}
 use mathlib.Core.Path.{refl, ap, _∙_}
 use native.Mathlib.Omega.{arith}
 use borrow.Author.Needs.{needs}
-use Rattle.profile.specs.Request.{setup, install, retrieve, query, enable, remove, cancel, list, info}
-use Rattle.requests.specs.declared.asked.Body.{Body}
-use Rattle.requests.specs.declared.asked.Ask.the-variants.{Yes}
-use Rattle.requests.specs.Answer.{bodyMeans, hashesIn, rightIn}
-use Rattle.requests.proofs.ByCase.{install-within, list-within}
+use Rattle.profile.specs.Request.{setup, install, retrieve, rek, enable, remove, cancel, list, info}
+use Rattle.request_reader.specs.declared.asked.Body.{Body}
+use Rattle.request_reader.specs.declared.asked.Ask.the-variants.{Yes}
+use Rattle.request_reader.specs.Answer.{bodyMeans, hashesIn, rightIn}
+use Rattle.request_reader.proofs.ByCase.{install-within, list-within}
 use Rattle.octets.proofs.ByteBounds.{below-256}
 use Rattle.queries.proofs.Untouched.{list-keeps, info-keeps}
 use Rattle.profile.specs.Table.{slotsOf}
@@ -43,8 +43,8 @@ retrieve-requires c κs = search needs
 enum-told-2 : tie.Need-enum-told-2
 enum-told-2 c = search needs
 
-rek-query-requires : tie.Need-rek-query-requires
-rek-query-requires c κs = search needs
+rek-requires : tie.Need-rek-requires
+rek-requires c κs = search needs
 
 enum-known-body-3 : tie.Need-enum-known-body-3
 enum-known-body-3 c = search needs
@@ -136,7 +136,7 @@ returns-4 c =
     let k = c .before .before .before .before .before .before .before in
     let f = now (start .args .frame) in
     let r = start .args .asked in
-    serves-as f r (start .args .body) (start .pre .1) _ _ _ _ (query (r .handle) (r .new)) (ap (λ (x : Body). bodyMeans f x r) (k .enum-told2 .given .1)) (c .before .before .before .before .rek-query .ensures)
+    serves-as f r (start .args .body) (start .pre .1) _ _ _ _ (rek (r .handle) (r .new)) (ap (λ (x : Body). bodyMeans f x r) (k .enum-told2 .given .1)) (c .before .before .before .before .rek .ensures)
 
 same-length-9 : tie.Need-same-length-9
 same-length-9 c = search needs
@@ -225,7 +225,7 @@ serve-spec =
     enum-told
     retrieve-requires
     enum-told-2
-    rek-query-requires
+    rek-requires
     enum-known-body-3
     enable-requires
     enum-told-3

@@ -3,7 +3,7 @@ use denote.Ref.{now}
 use mathlib.Core.Path.{ap}
 use borrow.Author.Needs.{needs}
 use Rattle.profile.specs.Frame.{integrity, parameter, unsupported}
-use Rattle.requests.specs.Answer.{whyMeans}
+use Rattle.request_reader.specs.Answer.{whyMeans}
 use Rattle.refusals.proofs.Refused.{refused-long, refuses-104, refuses-with}
 use Rattle.refusals.proofs.refuse.Statement.{statement}
 use Rattle.refusals.proofs.refuse.Tie as tie

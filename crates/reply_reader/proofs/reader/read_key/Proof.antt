@@ -1,7 +1,7 @@
 -- `reply_reader::reader::read_key` meets its contract. Assumes nothing.
 use native.Mathlib.Omega.{arith}
 use denote.Ref.{now}
-use Rattle.profile.specs.Frame.{Query}
+use Rattle.profile.specs.Frame.{Rek}
 use Rattle.reply_reader.proofs.Shapes.{key-room}
 use Rattle.reply_reader.proofs.Tellings.{passed, not-shaped, is-shaped}
 use borrow.Author.Needs.{needs}
@@ -17,7 +17,7 @@ malformed-requires c κs = search needs
 returns : tie.Need-returns
 returns c =
     let tested = c .before .before in
-    not-shaped Query (now (tested .before .before .args .f)) (tested .is-key .ensures) (c .before .if1 .taken) (c .malformed .ensures)
+    not-shaped Rek (now (tested .before .before .args .f)) (tested .is-key .ensures) (c .before .if1 .taken) (c .malformed .ensures)
 
 key-in-requires : tie.Need-key-in-requires
 key-in-requires c κs =
@@ -28,7 +28,7 @@ key-in-requires c κs =
 returns-2 : tie.Need-returns-2
 returns-2 c =
     let tested = c .before .before in
-    is-shaped Query (now (tested .before .before .args .f)) (tested .is-key .ensures) (c .before .if1 .left) (c .key-in .ensures)
+    is-shaped Rek (now (tested .before .before .args .f)) (tested .is-key .ensures) (c .before .if1 .left) (c .key-in .ensures)
 
 pub read-key-spec : {M : Type 1} → statement M
 read-key-spec =

@@ -7,11 +7,11 @@ use Rattle.reply_reader.proofs.reader.right_in.Tie as tie
 key-at-requires : tie.Need-key-at-requires
 key-at-requires c κs = search needs
 
-shared-slice-read-count-of : tie.Need-shared-slice-read-count-of
-shared-slice-read-count-of c = search needs
+shared-slice-read-hash-count-of : tie.Need-shared-slice-read-hash-count-of
+shared-slice-read-hash-count-of c = search needs
 
-count-of-requires : tie.Need-count-of-requires
-count-of-requires c κs = search needs
+hash-count-of-requires : tie.Need-hash-count-of-requires
+hash-count-of-requires c κs = search needs
 
 wide8-requires : tie.Need-wide8-requires
 wide8-requires c κs = search needs
@@ -30,15 +30,15 @@ sub-t10 c = search needs
 
 returns : tie.Need-returns
 unfolding rightIn
-returns c = rw (c .word-at .ensures, c .before .wide8 .ensures, c .before .before .count-of .ensures, c .before .before .before .before .key-at .ensures)
+returns c = rw (c .word-at .ensures, c .before .wide8 .ensures, c .before .before .hash-count-of .ensures, c .before .before .before .before .key-at .ensures)
 
 pub right-in-spec : {M : Type 1} → statement M
 right-in-spec =
     tie.close
     (tie.spec
     key-at-requires
-    shared-slice-read-count-of
-    count-of-requires
+    shared-slice-read-hash-count-of
+    hash-count-of-requires
     wide8-requires
     mul-at
     add-at

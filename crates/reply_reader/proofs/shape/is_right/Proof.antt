@@ -9,20 +9,20 @@ use Rattle.reply_reader.proofs.shape.is_right.Tie as tie
 returns : tie.Need-returns
 returns c = right-short (now (c .before .before .args .f)) (c .if1 .taken)
 
-shared-slice-read-count-of : tie.Need-shared-slice-read-count-of
-shared-slice-read-count-of c = search needs
+shared-slice-read-hash-count-of : tie.Need-shared-slice-read-hash-count-of
+shared-slice-read-hash-count-of c = search needs
 
-count-of-requires : tie.Need-count-of-requires
-count-of-requires c κs = search needs
+hash-count-of-requires : tie.Need-hash-count-of-requires
+hash-count-of-requires c κs = search needs
 
 wide8-requires : tie.Need-wide8-requires
 wide8-requires c κs = search needs
 
-shared-slice-read-count-rest : tie.Need-shared-slice-read-count-rest
-shared-slice-read-count-rest c = search needs
+shared-slice-read-hash-count-rest : tie.Need-shared-slice-read-hash-count-rest
+shared-slice-read-hash-count-rest c = search needs
 
-count-rest-requires : tie.Need-count-rest-requires
-count-rest-requires c κs = search needs
+hash-count-rest-requires : tie.Need-hash-count-rest-requires
+hash-count-rest-requires c κs = search needs
 
 mul-at : tie.Need-mul-at
 mul-at c = search needs
@@ -37,18 +37,18 @@ returns-2 : tie.Need-returns-2
 returns-2 c =
     let counted = c .before .before in
     let long = counted .before .before .before in
-    right-tests (now (long .before .before .args .f)) (long .if1 .left) (counted .wide8 .ensures ∙ counted .before .count-of .ensures) (c .count-rest .ensures)
+    right-tests (now (long .before .before .args .f)) (long .if1 .left) (counted .wide8 .ensures ∙ counted .before .hash-count-of .ensures) (c .hash-count-rest .ensures)
 
 pub is-right-spec : {M : Type 1} → statement M
 is-right-spec =
     tie.close
     (tie.spec
     returns
-    shared-slice-read-count-of
-    count-of-requires
+    shared-slice-read-hash-count-of
+    hash-count-of-requires
     wide8-requires
-    shared-slice-read-count-rest
-    count-rest-requires
+    shared-slice-read-hash-count-rest
+    hash-count-rest-requires
     mul-at
     add-at
     add-result

@@ -37,8 +37,8 @@ sub-put-right c = search needs
 cast-put-right : tie.Need-cast-put-right
 cast-put-right c = search needs
 
-count-byte-requires : tie.Need-count-byte-requires
-count-byte-requires c κs = search needs
+hash-count-byte-requires : tie.Need-hash-count-byte-requires
+hash-count-byte-requires c κs = search needs
 
 put-right-requires : tie.Need-put-right-requires
 put-right-requires c κs = search needs
@@ -69,7 +69,7 @@ returns-2 c =
     let y₁ = c .before .before .before .before .before .before .before .before .before .before .put-right .last .0 in
     let y₂ = c .before .before .before .before .before .before .put-bytes .last .0 in
     let y₃ = c .before .before .put-bytes2 .last .0 in
-    let e₁ : y₁ ≡ overAt 0 (started 2 size head) d = c .before .before .before .before .before .before .before .before .before .before .put-right .ensures ∙ ap (λ (b : ℕ). overAt 0 (started 2 size (p .handle ++ p .key ++ (word-bytes (p .count) ++ (b ∷ [])))) d) (c .before .before .before .before .before .before .before .before .before .before .before .count-byte .ensures) in
+    let e₁ : y₁ ≡ overAt 0 (started 2 size head) d = c .before .before .before .before .before .before .before .before .before .before .put-right .ensures ∙ ap (λ (b : ℕ). overAt 0 (started 2 size (p .handle ++ p .key ++ (word-bytes (p .count) ++ (b ∷ [])))) d) (c .before .before .before .before .before .before .before .before .before .before .before .hash-count-byte .ensures) in
     frame-whole 2 (rightBody p (a .n) x w) d y₃ size m (omega arith)
     (then-part 2 size (head ++ x) w d y₂ y₃ (33 + length x) (rw length-append (omega arith)) (omega arith)
     (then-part 2 size head x d y₁ y₂ 33 (omega arith) (omega arith) e₁ (c .before .before .before .before .before .before .put-bytes .ensures))
@@ -85,7 +85,7 @@ write-right-spec =
     returns
     sub-put-right
     cast-put-right
-    count-byte-requires
+    hash-count-byte-requires
     put-right-requires
     put-bytes-requires
     put-bytes-requires-2

@@ -1,6 +1,6 @@
 -- `request_writer::given::kind_allows` meets its contract, kind by kind. Assumes nothing.
 use Rattle.request_writer.specs.Writing.{kindAllows}
-use Rattle.requests.proofs.Choices.{no-kind}
+use Rattle.request_reader.proofs.Choices.{no-kind}
 use mathlib.Core.Path.{refl}
 use borrow.Author.Needs.{needs}
 use Rattle.request_writer.proofs.given.kind_allows.Statement.{statement}

@@ -3,11 +3,11 @@ use mathlib.Core.Path.{ap, _∙_, refl}
 use native.Mathlib.Omega.{arith}
 use denote.Ref.{now}
 use Rattle.profile.specs.Bytes.{Bytes}
-use Rattle.profile.specs.Frame.{Setup, Install, Retrieve, Query, Enable, Remove, Cancel, List', Info, kindOf}
+use Rattle.profile.specs.Frame.{Setup, Install, Retrieve, Rek, Enable, Remove, Cancel, List', Info, kindOf}
 use Rattle.profile.specs.Request.{writeRequest}
 use Rattle.profile.specs.Device.{wholeHashes, put}
 use Rattle.request_writer.specs.Writing.{fieldsOf, kindAllows, wrote}
-use Rattle.requests.proofs.Choices.{no-kind}
+use Rattle.request_reader.proofs.Choices.{no-kind}
 use Rattle.request_writer.proofs.Allowed.{hashes-few, payload-short, right-frame, list-frame, kind-writes}
 use borrow.Author.Needs.{needs}
 use Rattle.request_writer.proofs.writer.write_kind.Statement.{statement}
@@ -94,7 +94,7 @@ unfolding writeRequest
 returns-4 c =
     let a = c .before .before .before .before .before .before .before .before .before .before .args in
     let f = fieldsOf (a .p) (now (a .hashes)) (now (a .payload)) in
-    kind-writes Query f (a .kind) (now (a .out)) (wrote (c .before .before .write-two2 .result) (c .before .before .write-two2 .last .0))
+    kind-writes Rek f (a .kind) (now (a .out)) (wrote (c .before .before .write-two2 .result) (c .before .before .write-two2 .last .0))
     (ap kindOf (c .before .before .before .before .match .keys4)) (c .before .before .before .before .before .before .before .before .before .before .pre) (c .before .before .write-two2 .ensures)
 
 same-length-5 : tie.Need-same-length-5

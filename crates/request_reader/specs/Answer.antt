@@ -1,0 +1,87 @@
+-- What the request reader's answer means in the card profile, for each case of its enum; and what it promises of every frame.
+use Prim.Native.Nat.{ℕ, _+_, _*_, _≤_}
+use mathlib.Core.Path.{_≡_}
+use lib.ListN.{length, drop}
+use Rattle.profile.specs.Bytes.{Bytes, part, pieces}
+use Rattle.profile.specs.Slot.{hashSize, mostHashes, Right}
+use Rattle.profile.specs.Frame.{integrity, parameter, unsupported}
+use Rattle.profile.specs.Request.{Request, setup, install, retrieve, rek, enable, remove, cancel, list, info, Read, asks, refused, noFrame, readRequest}
+use Rattle.request_reader.specs.declared.asked.Why.{Why}
+use Rattle.request_reader.specs.declared.asked.Why.the-variants.{NoFrame, Integrity, Parameter, Unsupported}
+use Rattle.request_reader.specs.declared.asked.Body.{Body}
+use Rattle.request_reader.specs.declared.asked.Body.the-variants.{Setup, Install, Retrieve, Rek, Enable, Remove, Cancel, List, Info}
+use Rattle.request_reader.specs.declared.asked.Ask.{Ask}
+use Rattle.request_reader.specs.declared.asked.Ask.the-variants.{No, Yes}
+use Rattle.request_reader.specs.declared.asked.Asked.{Asked}
+use Rattle.request_reader.specs.Asking.{asked}
+
+-- ---- the number 104, or the status
+abbrev pub whyMeans : Why → Read
+whyMeans NoFrame = noFrame
+whyMeans Integrity = refused integrity
+whyMeans Parameter = refused parameter
+whyMeans Unsupported = refused unsupported
+
+-- ---- the fields; n hashes stand in the frame from a place on, and the payload behind them
+abbrev pub hashesIn : Bytes → ℕ → ℕ → mathlib.Core.List.List Bytes
+hashesIn f n at = pieces hashSize n (drop at f)
+
+abbrev pub rightIn : Bytes → Bytes → ℕ → ℕ → ℕ → ℕ → Right
+rightIn f key c n at len = record { key = key; count = c; hashes = hashesIn f n at; payload = part (at + hashSize * n) len f }
+
+abbrev pub bodyMeans : Bytes → Body → Asked → Request
+bodyMeans f (Setup n) r = setup (r .handle) n
+bodyMeans f (Install c n at len) r = install (r .handle) (rightIn f (r .key) c n at len)
+bodyMeans f Retrieve r = retrieve (r .handle) (r .new)
+bodyMeans f Rek r = rek (r .handle) (r .new)
+bodyMeans f (Enable c) r = enable (r .handle) c
+bodyMeans f Remove r = remove (r .handle)
+bodyMeans f Cancel r = cancel (r .handle)
+bodyMeans f (List limit n at) r = list limit (hashesIn f n at)
+bodyMeans f Info r = info (r .handle)
+
+abbrev pub askMeans : Bytes → Ask → Asked → Read
+askMeans f (No w) r = whyMeans w
+askMeans f (Yes b) r = asks (bodyMeans f b r)
+
+unfoldable pub meaning : Bytes → Asked → Read
+meaning f r = askMeans f (r .ask) r
+
+-- ---- where the hashes and the payload end
+pub record InstallEnds (f : Bytes) (n at len : ℕ) : Type 0 where
+  pub few : n ≤ mostHashes
+  pub least : 1 ≤ len
+  pub most : len ≤ 4096
+  pub ends : at + hashSize * n + len ≡ length f
+
+pub record ListEnds (f : Bytes) (n at : ℕ) : Type 0 where
+  pub few : n ≤ mostHashes
+  pub ends : at + hashSize * n ≡ length f
+
+abbrev pub BodyEnds : Bytes → Body → Type 0
+BodyEnds f (Setup n) = Unit {0}
+BodyEnds f (Install c n at len) = InstallEnds f n at len
+BodyEnds f Retrieve = Unit {0}
+BodyEnds f Rek = Unit {0}
+BodyEnds f (Enable c) = Unit {0}
+BodyEnds f Remove = Unit {0}
+BodyEnds f Cancel = Unit {0}
+BodyEnds f (List limit n at) = ListEnds f n at
+BodyEnds f Info = Unit {0}
+
+abbrev pub AskEnds : Bytes → Ask → Type 0
+AskEnds f (No w) = Unit {0}
+AskEnds f (Yes b) = BodyEnds f b
+
+-- ---- the lengths of the arrays, the zero ones too
+pub record Sizes (r : Asked) : Type 0 where
+  pub handle-10 : length (r .handle) ≡ 10
+  pub new-10 : length (r .new) ≡ 10
+  pub key-16 : length (r .key) ≡ 16
+
+-- ---- the promise: the answer is exactly this one, means what the profile reads, and its offsets lie in the frame
+pub record Answers (f : Bytes) (r : Asked) : Type 0 where
+  pub exact : r ≡ asked f
+  pub means : meaning f r ≡ readRequest f
+  pub ends : AskEnds f (r .ask)
+  pub sizes : Sizes r

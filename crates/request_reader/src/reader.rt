@@ -1,0 +1,192 @@
+// The request reader: "104, then the tests for all kinds, then the field tests of kinds 2 and 8".
+ghost use mathlib.Core.Path.{_≡_};
+ghost use Prim.Native.Nat.{_+_, _≤_};
+ghost use lib.ListN.{length};
+ghost use lib.Dec.{eqb, leb};
+ghost use Rattle.profile.specs.Frame.{kindOf};
+ghost use Rattle.profile.specs.Bytes.{word};
+ghost use Rattle.request_reader.specs.Asking.{tested, oneHandle, twoHandles, ofInstall, ofList, ofKind, asked};
+ghost use Rattle.request_reader.specs.Answer.{Answers};
+ghost use Rattle.request_reader.specs.declared.asked.Body.the-variants as body;
+use crate::asked::Asked;
+use crate::asked::Body;
+use crate::asked::Why;
+
+// A byte as a count.
+fn wide(b: u8) -> usize
+    ensures { λ r. ⌜ r ≡ b ⌝ }
+{
+    b as usize
+}
+
+// A body length as a length.
+fn wide_word(n: u16) -> usize
+    ensures { λ r. ⌜ r ≡ n ⌝ }
+{
+    n as usize
+}
+
+// "handle (10)".
+fn read_one(f: &[u8], n: usize, verdict: u8, body: Body) -> Asked
+    requires { ⌜ length (now f) ≡ 4 + n ⌝ }
+    ensures { λ r. ⌜ r ≡ tested (eqb n 10) verdict (oneHandle (now (f .entry)) body) ⌝ }
+{
+    if n != 10 {
+        return crate::asked::refuse(Why::Parameter);
+    }
+    if verdict == 0 {
+        return crate::asked::refuse(Why::Integrity);
+    }
+    crate::asked::with_handle(f, body)
+}
+
+// "handle, new handle (20)".
+fn read_two(f: &[u8], n: usize, verdict: u8, body: Body) -> Asked
+    requires { ⌜ length (now f) ≡ 4 + n ⌝ }
+    ensures { λ r. ⌜ r ≡ tested (eqb n 20) verdict (twoHandles (now (f .entry)) body) ⌝ }
+{
+    if n != 20 {
+        return crate::asked::refuse(Why::Parameter);
+    }
+    if verdict == 0 {
+        return crate::asked::refuse(Why::Integrity);
+    }
+    crate::asked::with_two(f, body)
+}
+
+// Kind 1: "handle, length 16 bits (12 bytes)". A length of 0 is the agent's to refuse.
+fn read_setup(f: &[u8], n: usize, verdict: u8) -> Asked
+    requires { ⌜ length (now f) ≡ 4 + n ⌝ }
+    ensures { λ r. ⌜ r ≡ tested (eqb n 12) verdict (oneHandle (now (f .entry)) (body.Setup (word 14 (now (f .entry))))) ⌝ }
+{
+    if n != 12 {
+        return crate::asked::refuse(Why::Parameter);
+    }
+    if verdict == 0 {
+        return crate::asked::refuse(Why::Integrity);
+    }
+    let length = words::word_at(f, 14);
+    crate::asked::with_handle(f, Body::Setup { length: length })
+}
+
+// Kind 5: "handle, count (12)".
+fn read_enable(f: &[u8], n: usize, verdict: u8) -> Asked
+    requires { ⌜ length (now f) ≡ 4 + n ⌝ }
+    ensures { λ r. ⌜ r ≡ tested (eqb n 12) verdict (oneHandle (now (f .entry)) (body.Enable (word 14 (now (f .entry))))) ⌝ }
+{
+    if n != 12 {
+        return crate::asked::refuse(Why::Parameter);
+    }
+    if verdict == 0 {
+        return crate::asked::refuse(Why::Integrity);
+    }
+    let count = words::word_at(f, 14);
+    crate::asked::with_handle(f, Body::Enable { count: count })
+}
+
+// The field tests of kind 2, on a body of 30 bytes or more.
+fn install_fields(f: &[u8], n: usize) -> Asked
+    requires { ⌜ (length (now f) ≡ 4 + n) × (30 ≤ n) ⌝ }
+    ensures { λ r. ⌜ r ≡ ofInstall n (now (f .entry)) ⌝ }
+{
+    let hashes = wide(bits::fields::hash_count_of(f[32]));
+    if hashes > 8 {
+        return crate::asked::refuse(Why::Parameter);
+    }
+    if bits::fields::hash_count_rest(f[32]) != 0 {
+        return crate::asked::refuse(Why::Parameter);
+    }
+    let start = 29 + 20 * hashes;
+    if n <= start {
+        return crate::asked::refuse(Why::Parameter);
+    }
+    let payload = n - start;
+    if payload > 4096 {
+        return crate::asked::refuse(Why::Parameter);
+    }
+    crate::asked::with_right(f, hashes, payload)
+}
+
+// Kind 2: "(30 or more)".
+fn read_install(f: &[u8], n: usize, verdict: u8) -> Asked
+    requires { ⌜ length (now f) ≡ 4 + n ⌝ }
+    ensures { λ r. ⌜ r ≡ tested (leb 30 n) verdict (ofInstall n (now (f .entry))) ⌝ }
+{
+    if n < 30 {
+        return crate::asked::refuse(Why::Parameter);
+    }
+    if verdict == 0 {
+        return crate::asked::refuse(Why::Integrity);
+    }
+    install_fields(f, n)
+}
+
+// Kind 8: "limit 16 bits, hash count 8 bits, hashes (3 or more)". Its verdict is ignored.
+fn read_list(f: &[u8], n: usize) -> Asked
+    requires { ⌜ length (now f) ≡ 4 + n ⌝ }
+    ensures { λ r. ⌜ r ≡ tested (leb 3 n) 1 (ofList n (now (f .entry))) ⌝ }
+{
+    if n < 3 {
+        return crate::asked::refuse(Why::Parameter);
+    }
+    let count = wide(f[6]);
+    if count > 8 {
+        return crate::asked::refuse(Why::Parameter);
+    }
+    if n != 3 + 20 * count {
+        return crate::asked::refuse(Why::Parameter);
+    }
+    crate::asked::with_hashes(f, count)
+}
+
+// "kind not 1 to 9, 3"; kinds 8 and 9 ignore the verdict, as if it were 1.
+fn read_kind(f: &[u8], kind: u8, n: usize, verdict: u8) -> Asked
+    requires { ⌜ length (now f) ≡ 4 + n ⌝ }
+    ensures { λ r. ⌜ r ≡ ofKind (kindOf kind) n verdict (now (f .entry)) ⌝ }
+{
+    match kind {
+        1 => read_setup(f, n, verdict),
+        2 => read_install(f, n, verdict),
+        3 => read_two(f, n, verdict, Body::Retrieve),
+        4 => read_two(f, n, verdict, Body::Rek),
+        5 => read_enable(f, n, verdict),
+        6 => read_one(f, n, verdict, Body::Remove),
+        7 => read_one(f, n, verdict, Body::Cancel),
+        8 => read_list(f, n),
+        9 => read_one(f, n, 1, Body::Info),
+        _ => crate::asked::refuse(Why::Unsupported),
+    }
+}
+
+// The tests of the four bytes of a head, and then those of the kind.
+fn read_frame(f: &[u8]) -> Asked
+    ensures { λ r. ⌜ r ≡ asked (now (f .entry)) ⌝ }
+{
+    if f.len() < 4 {
+        return crate::asked::refuse(Why::NoFrame);
+    }
+    let n = wide_word(words::word_at(f, 2));
+    if f.len() != 4 + n {
+        return crate::asked::refuse(Why::NoFrame);
+    }
+    if bits::fields::frame_version(f[0]) != 1 {
+        return crate::asked::refuse(Why::Parameter);
+    }
+    if bits::fields::flag_rest(f[1]) != 0 {
+        return crate::asked::refuse(Why::Parameter);
+    }
+    read_kind(
+        f,
+        bits::fields::frame_kind(f[0]),
+        n,
+        bits::fields::flag_of(f[1]),
+    )
+}
+
+// "A frame is either a request with its fields or exactly one refusal", for every byte string; callers take the
+// answer apart by let .. else.
+pub fn read_request(f: &[u8]) -> Asked
+    ensures { λ r. ⌜ Answers (now (f .entry)) r ⌝ }
+{
+    read_frame(f)
+}
