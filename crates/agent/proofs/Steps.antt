@@ -7,7 +7,7 @@ use Rattle.profile.specs.Slot.{Slot}
 use Rattle.profile.specs.Table.{slotsOf}
 use Rattle.profile.specs.Frame.{kindNumber}
 use Rattle.profile.specs.Request.{Request, Read, asks, numberOf, readRequest}
-use Rattle.profile.specs.Agent.{Outcome, tableAfter, obey, lowestEmpty}
+use Rattle.profile.specs.Agent.{Outcome, tableAfter, obey, onBytes, lowestEmpty}
 use Rattle.profile.proofs.Frames.{Reads, reads}
 use Rattle.profile.proofs.Requests.{kind-number}
 use Rattle.request_reader.specs.declared.asked.Why.{Why}
@@ -26,8 +26,8 @@ pub why-means : (f : Bytes) (r : Asked) → Answers f r → (w x : Why) → r .a
 why-means f r a w x e d = ap whyMeans (d ∙ ap whyOf e) ∙ sym (says-no f r a w e)
 
 pub refusal-obeys : (f : Bytes) (w : Why) (buffer : Bytes) (n : ℕ) (buffer' : Bytes) → Refuses f w buffer n buffer' → whyMeans w ≡ readRequest f
-    → (free : ℕ) (t : List Slot) (table : Bytes) → outcome n buffer' table ≡ obey (kindNumber f) (readRequest f) free t table buffer
-refusal-obeys f w buffer n buffer' s e free t table = s .on-any free t table ∙ ap (λ (r : Read). obey (kindNumber f) r free t table buffer) e
+    → (free : ℕ) (t : List Slot) (table : Bytes) → outcome n buffer' table ≡ onBytes (kindNumber f) (obey (readRequest f) free t) table buffer
+refusal-obeys f w buffer n buffer' s e free t table = s .on-any free t table ∙ ap (λ (r : Read). onBytes (kindNumber f) (obey r free t) table buffer) e
 
 -- ---- a request
 module _ (f : Bytes) (r : Asked) (b : Body) (a : Asks f r b) where
@@ -51,5 +51,5 @@ module _ (f : Bytes) (r : Asked) (b : Body) (a : Asks f r b) where
     reads-only q e x y z = serves-as q e (record { table-is = y ∙ sym z; reply-is = x })
 
     pub obeys : Serves (kindNumber f) (answerTo table (bodyMeans f b r)) table buffer table' buffer'
-        → outcome 0 buffer' table' ≡ obey (kindNumber f) (readRequest f) (lowestEmpty (slotsOf table)) (slotsOf table) table buffer
+        → outcome 0 buffer' table' ≡ onBytes (kindNumber f) (obey (readRequest f) (lowestEmpty (slotsOf table)) (slotsOf table)) table buffer
     obeys s = rw reads-as (ap₂ {C = Outcome} (λ (x y : Bytes). outcome 0 x y) (s .reply-is) (s .table-is))

@@ -8,7 +8,7 @@ ghost use lib.ListN.{length};
 ghost use Rattle.profile.specs.Table.{slotsOf};
 ghost use Rattle.profile.specs.Frame.{kindNumber};
 ghost use Rattle.profile.specs.Request.{readRequest};
-ghost use Rattle.profile.specs.Agent.{agent, obey, lowestEmpty};
+ghost use Rattle.profile.specs.Agent.{agent, obey, onBytes, lowestEmpty};
 ghost use Rattle.request_reader.specs.Answer.{bodyMeans};
 ghost use Rattle.decisions.specs.Serving.{Ready, Serves, answerTo};
 ghost use Rattle.agent.specs.Call.{outcome, callOf, whyOf, Asks};
@@ -59,7 +59,7 @@ fn serve(table: &mut [u8], frame: &[u8], reply: &mut [u8], asked: Asked, body: B
 // On a well-formed table: 104, a status, or what the request does.
 fn answer(table: &mut [u8], frame: &[u8], reply: &mut [u8]) -> u16
     requires { ⌜ Ready (now table) (now reply) ⌝ }
-    ensures { λ r. ⌜ outcome r (now (reply .exit)) (now (table .exit)) ≡ obey (kindNumber (now (frame .entry))) (readRequest (now (frame .entry))) (lowestEmpty (slotsOf (now (table .entry)))) (slotsOf (now (table .entry))) (now (table .entry)) (now (reply .entry)) ⌝ }
+    ensures { λ r. ⌜ outcome r (now (reply .exit)) (now (table .exit)) ≡ onBytes (kindNumber (now (frame .entry))) (obey (readRequest (now (frame .entry))) (lowestEmpty (slotsOf (now (table .entry)))) (slotsOf (now (table .entry)))) (now (table .entry)) (now (reply .entry)) ⌝ }
 {
     let asked = request_reader::reader::read_request(frame);
     let ask = asked.ask;

@@ -13,7 +13,7 @@ use Rattle.profile.specs.Slot.{Right, Entry, reserved, enabled, disabled
 use Rattle.profile.specs.Table.{slotsOf}
 use Rattle.profile.specs.Frame.{kindNumber, frame}
 use Rattle.profile.specs.Request.{setup, list, Read, asks, refused, noFrame, readRequest}
-use Rattle.profile.specs.Agent.{Given, handles, Found, absent, one, next, find, Answer, deny, done, act, lowestEmpty, replyFrame, Call, refuse, replied, obey, agent}
+use Rattle.profile.specs.Agent.{Given, handles, Found, absent, one, next, find, Answer, deny, done, act, lowestEmpty, replyFrame, Call, refuse, replied, obey, onBytes, agent}
 use Rattle.profile.specs.Laws.{Apart, Refuses, FoundIs, SetsLowest, is-empty}
 use Rattle.profile.proofs.Logic.{both, and-parts, not-true, same-refl, split}
 use Rattle.profile.proofs.Numbers.{by-agent}
@@ -127,7 +127,7 @@ module _ (table : Bytes) (c : Call) where
   pub refuses : Refuses table c (agent table c)
   refuses = by-agent table c (Refuses table c) refused-number (λ _ _ free _. obeyed (readRequest (c .request)) free)
     where
-      obeyed : (r : Read) (free : ℕ) → Refuses table c (obey (kindNumber (c .request)) r free (slotsOf table) table (c .buffer))
+      obeyed : (r : Read) (free : ℕ) → Refuses table c (onBytes (kindNumber (c .request)) (obey r free (slotsOf table)) table (c .buffer))
       obeyed (asks q) free = refused-status (act free (slotsOf table) q)
       obeyed (refused r) free = refused-status (deny r)
       obeyed noFrame free = refused-number 104 refl
