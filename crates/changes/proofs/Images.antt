@@ -5,7 +5,8 @@ use mathlib.Core.List.{List, [], _∷_, _++_, append-assoc}
 use native.Mathlib.Omega.{arith}
 use lib.ListN.{length, take, drop}
 use Rattle.profile.specs.Bytes.{Bytes, byte, word-bytes, zeros, joined}
-use Rattle.profile.specs.Slot.{hashSize, mostHashes, Count, Right, recount, HasRoom}
+use Rattle.profile.specs.Sizes.{hashSize, mostHashes}
+use Rattle.profile.specs.Slot.{Count, Right, recount, HasRoom}
 use Rattle.profile.specs.Table.{slotHead, imageFields, image, blank}
 use Rattle.profile.proofs.Counts.{spare-small}
 use Rattle.profile.proofs.Strings.{length-zeros, length-each}

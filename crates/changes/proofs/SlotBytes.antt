@@ -6,7 +6,8 @@ use native.Mathlib.Nat.{add-zero}
 use native.Mathlib.Omega.{arith}
 use lib.ListN.{length, drop, replicate-append-replicate, length-drop}
 use Rattle.profile.specs.Bytes.{Bytes, byte, part, word, word-bytes, zeros, joined, Bytes256}
-use Rattle.profile.specs.Slot.{hashSize, mostHashes, Count, Right, recount, reserved, enabled, disabled, empty, taken, HasRoom}
+use Rattle.profile.specs.Sizes.{hashSize, mostHashes}
+use Rattle.profile.specs.Slot.{Count, Right, recount, reserved, enabled, disabled, empty, taken, HasRoom}
 use Rattle.profile.specs.Table.{rightOf, unpack, image, blank, pack}
 use Rattle.profile.proofs.Counts.{blank-count}
 use Rattle.profile.proofs.Strings.{length-zeros, length-part, length-pieces, each-pieces, joined-pieces}

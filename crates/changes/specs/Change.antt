@@ -5,8 +5,9 @@ use mathlib.Core.List.{[]}
 use mathlib.Core.Bool.{true}
 use lib.ListN.{length, getD, drop}
 use Rattle.profile.specs.Bytes.{Bytes, part, pieces}
-use Rattle.profile.specs.Slot.{hashSize, Count, Right}
-use Rattle.profile.specs.Table.{slotSize, placeOf, wellSlot, slotCount, slotBytes, wholeSlots, wellTable}
+use Rattle.profile.specs.Sizes.{hashSize, slotSize}
+use Rattle.profile.specs.Slot.{Count, Right}
+use Rattle.profile.specs.Table.{placeOf, wellSlot, slotCount, slotBytes, wholeSlots, wellTable}
 
 -- the bytes of slot i
 abbrev pub slotAt : Bytes → ℕ → Bytes

@@ -9,7 +9,8 @@ use lib.Dec.{eqb, leb}
 use lib.ListN.{length, drop, length-drop}
 use lib.Seq.{drop-cons}
 use Rattle.profile.specs.Bytes.{Bytes, Bytes256, byte, word, zeros, over, joined, pieces}
-use Rattle.profile.specs.Slot.{hashSize, mostHashes, Count, HashesFit}
+use Rattle.profile.specs.Sizes.{hashSize, mostHashes}
+use Rattle.profile.specs.Slot.{Count, HashesFit}
 use Rattle.profile.specs.Frame.{Kind, Setup, Install, Retrieve, Rek, Enable, Remove, Cancel, List', Info, kindOf, kindNumber}
 use Rattle.profile.specs.Request.{Request, setup, install, retrieve, rek, enable, remove, cancel, list, info, asks, verdict, guarded, fields, readRequest, withVerdict, RequestFits}
 use Rattle.profile.specs.Device.{wholeHashes, kindHolds, requestOf, fieldsWith, fieldsIn, Arrays, Written, write}

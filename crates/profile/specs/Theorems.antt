@@ -9,8 +9,9 @@ use mathlib.Core.Bool.{true, false}
 use lib.Dec.{T, eqb, ltb}
 use lib.ListN.{length, set}
 use Rattle.profile.specs.Bytes.{Bytes, Bytes256, over, all}
+use Rattle.profile.specs.Sizes.{slotSize, replyRoom}
 use Rattle.profile.specs.Slot.{reserved, Slot, taken, distinct, SlotFits, TableFits}
-use Rattle.profile.specs.Table.{slotSize, unpack, pack, wellSlot, slotsOf, tableOf, wholeSlots, wellTable}
+use Rattle.profile.specs.Table.{unpack, pack, wellSlot, slotsOf, tableOf, wholeSlots, wellTable}
 use Rattle.profile.specs.Frame.{Kind, kindOf, kindNumber, statusIn}
 use Rattle.profile.specs.Request.{Request, setup, list, asks, readRequest, writeRequest, withVerdict, RequestFits}
 use Rattle.profile.specs.Agent.{Given, Answer, done, find, act, lowestEmpty, replyFrame, Call, Outcome, replied, agent}
@@ -66,7 +67,7 @@ pub record WrittenAgain (f : Bytes) (q : Request) (buffer : Bytes) : Type 0 wher
 pub record Readable (table : Bytes) (c : Call) (o : Outcome) : Type 0 where
   pub answer : Answer
   pub replies : o ≡ replied (kindNumber (c .request)) answer table (c .buffer)
-  pub short : length (replyFrame (kindNumber (c .request)) answer) ≤ 4279
+  pub short : length (replyFrame (kindNumber (c .request)) answer) ≤ replyRoom
   pub read : readReply (replyFrame (kindNumber (c .request)) answer) ≡ sent (kindNumber (c .request)) answer
 
 -- ---- the theorems

@@ -6,7 +6,7 @@ use mathlib.Core.Bool.{_&&_, not}
 use lib.ListN.{length, drop, replicate}
 use lib.Dec.{eqb, ltb}
 use Rattle.profile.specs.Bytes.{Bytes, if_then_else_, byte, part, word, pieces}
-use Rattle.profile.specs.Slot.{hashSize}
+use Rattle.profile.specs.Sizes.{hashSize}
 use Rattle.profile.specs.Frame.{Kind, Setup, Install, Retrieve, Rek, Enable, Remove, Cancel, List', Info, kindOf, lastStatus, isFrame, versionHolds, kindNumber, body, statusIn}
 use Rattle.profile.specs.Agent.{nothing, theRight, theKey, handles, counted}
 use Rattle.profile.specs.Device.{none?, shaped, Reply, malformed, failed, gave, readReply}

@@ -8,7 +8,7 @@ use lib.Dec.{eqb, leb}
 use lib.ListN.{length, getD, drop, length-drop}
 use lib.Seq.{drop-drop, take-all, getD-drop}
 use Rattle.profile.specs.Bytes.{Bytes, if_then_else_, byte, part, word, from1to}
-use Rattle.profile.specs.Slot.{hashSize, mostHashes}
+use Rattle.profile.specs.Sizes.{hashSize, mostHashes}
 use Rattle.profile.specs.Frame.{Kind, Setup, Install, Retrieve, Rek, Enable, Remove, Cancel, List', Info, kindOf, kindNumber, isFrame, versionHolds, body, parameter}
 use Rattle.profile.specs.Request.{install, Read, asks, refused, zeroBits, verdict, bodyFits, guarded, fieldsHold, fields, readKind, readRequest}
 use Rattle.profile.proofs.Logic.{and-parts, not-false, eqb-eq, leb-le, from-1-to-says}

@@ -3,7 +3,8 @@ use Prim.Native.Nat.{ℕ, _+_, _*_, _≤_}
 use mathlib.Core.Path.{_≡_}
 use lib.ListN.{length, drop}
 use Rattle.profile.specs.Bytes.{Bytes, part, pieces}
-use Rattle.profile.specs.Slot.{hashSize, mostHashes, Right}
+use Rattle.profile.specs.Sizes.{hashSize, mostHashes}
+use Rattle.profile.specs.Slot.{Right}
 use Rattle.profile.specs.Frame.{integrity, parameter, unsupported}
 use Rattle.profile.specs.Request.{Request, setup, install, retrieve, rek, enable, remove, cancel, list, info, Read, asks, refused, noFrame, readRequest}
 use Rattle.request_reader.specs.declared.asked.Why.{Why}

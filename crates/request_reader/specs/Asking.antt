@@ -4,7 +4,7 @@ use mathlib.Core.Bool.{Bool, _&&_, not}
 use mathlib.Core.Option.{Option, none, some}
 use lib.Dec.{eqb, leb}
 use Rattle.profile.specs.Bytes.{Bytes, if_then_else_, byte, part, word, zeros, from1to}
-use Rattle.profile.specs.Slot.{hashSize, mostHashes}
+use Rattle.profile.specs.Sizes.{hashSize, mostHashes}
 use Rattle.profile.specs.Frame.{Kind, Setup, Install, Retrieve, Rek, Enable, Remove, Cancel, List', Info, kindOf, isFrame, versionHolds, kindNumber}
 use Rattle.profile.specs.Request.{verdict, zeroBits, bodyFits, guarded}
 use Rattle.request_reader.specs.declared.asked.Why.{Why}

@@ -9,7 +9,7 @@ use lib.Dec.{eqb, leb}
 use lib.ListN.{length}
 use lib.Seq.{take-all}
 use Rattle.profile.specs.Bytes.{Bytes, word-bytes, from1to, joined, pieces}
-use Rattle.profile.specs.Slot.{hashSize}
+use Rattle.profile.specs.Sizes.{hashSize}
 use Rattle.profile.specs.Frame.{Kind, Install, List', kindOf, frame}
 use Rattle.profile.specs.Request.{writeRequest}
 use Rattle.profile.specs.Device.{Fields, wholeHashes, noNew, noRoom, noLimit, requestOf, Written, put, writeKind, write}

@@ -3,7 +3,7 @@ use Prim.Native.Nat.{ℕ, _+_, _*_, _≤_}
 use lib.ListN.{length}
 use denote.Ref.{RefT, now}
 use Rattle.profile.specs.Bytes.{Bytes, part}
-use Rattle.profile.specs.Slot.{hashSize}
+use Rattle.profile.specs.Sizes.{hashSize}
 use Rattle.slots.specs.declared.reader.HashReader.{HashReader}
 
 -- the hash at a position, and that one stands there: positions are counted in hashes, from 0

@@ -5,7 +5,7 @@ ghost use mathlib.Core.List.{[], _∷_};
 ghost use Prim.Native.Nat.{_≤_, _*_};
 ghost use lib.ListN.{length, take};
 ghost use Rattle.profile.specs.Bytes.{part, pieces, same, any, if_then_else_};
-ghost use Rattle.profile.specs.Slot.{hashSize};
+ghost use Rattle.profile.specs.Sizes.{hashSize};
 ghost use Rattle.profile.specs.Table.{unpack, hashCountOf, rightOf};
 ghost use Rattle.profile.specs.Agent.{listedSlot};
 

@@ -1,0 +1,19 @@
+// The numbers that a function gives (PROFILE 4.1, 6.2 and 6.3). Every number but 0 leaves all lent memory as it was.
+pub const DONE: u16 = 0;
+
+// The call's, in the order in which it tests.
+pub const REPLY_BUFFER_SHORT: u16 = 101;
+
+pub const TABLE_LENGTH: u16 = 102;
+
+pub const TABLE_NOT_WELL_FORMED: u16 = 103;
+
+pub const NOT_A_FRAME: u16 = 104;
+
+// The request writer's.
+pub const WRITER_BUFFER_SHORT: u16 = 201;
+
+pub const WRITER_FIELDS: u16 = 202;
+
+// The reply reader's.
+pub const NOT_A_REPLY: u16 = 203;
