@@ -1,30 +1,30 @@
-// Bytes of packed bit fields, most significant bit first, taken apart and built by shifts and masks.
+// Bytes of packed bit fields, taken apart and built by shifts and masks; the first field stands in the most significant bits.
 ghost use mathlib.Core.Path.{_≡_};
 ghost use Prim.Native.Nat.{_+_, _*_, _/_, _%_, _<_};
 ghost use Rattle.profile.specs.Bytes.{if_then_else_};
 
-// Slot byte 0, "place 2 bits, hash count 4 bits, 2 spare bits": the place's number.
+// Byte 0 of a slot has the place, the hash count and two spare bits (PROFILE 2.2): the place's number.
 pub fn slot_place(b: u8) -> u8
     ensures { λ r. ⌜ r ≡ b / 64 ⌝ }
 {
     b >> 6
 }
 
-// The hash count of slot byte 0. Up to 15 can stand there; which are allowed is the slot's rule.
+// The hash count of slot byte 0. Four bits hold up to 15; which of these are well formed is for the slot to say (PROFILE 2.4).
 pub fn slot_hashes(b: u8) -> u8
     ensures { λ r. ⌜ r ≡ b / 4 % 16 ⌝ }
 {
     (b >> 2) & 15
 }
 
-// The two spare bits of slot byte 0, which are 0 in a well-formed slot.
+// The two spare bits of slot byte 0, which are 0 in a well-formed slot (PROFILE 2.4).
 pub fn slot_spare(head: u8) -> u8
     ensures { λ r. ⌜ r ≡ head % 4 ⌝ }
 {
     head & 3
 }
 
-// Slot byte 0 of a place and a hash count, with its spare bits 0.
+// Slot byte 0 with a place and a hash count, and its spare bits 0.
 pub fn slot_head(place: u8, hashes: u8) -> u8
     requires { ⌜ (place < 4) × (hashes < 16) ⌝ }
     ensures { λ r. ⌜ r ≡ 64 * place + 4 * hashes ⌝ }
@@ -32,7 +32,7 @@ pub fn slot_head(place: u8, hashes: u8) -> u8
     (place << 6) | (hashes << 2)
 }
 
-// Frame byte 0, "version 3 bits (1), kind 5 bits": the version.
+// Byte 0 of a frame has the version and the kind (PROFILE 3.1): the version.
 pub fn frame_version(b: u8) -> u8
     ensures { λ r. ⌜ r ≡ b / 32 ⌝ }
 {
@@ -46,7 +46,7 @@ pub fn frame_kind(b: u8) -> u8
     b & 31
 }
 
-// Frame byte 0 of a kind, at version 1.
+// Frame byte 0 with a kind, of version 1.
 pub fn frame_head(kind: u8) -> u8
     requires { ⌜ kind < 32 ⌝ }
     ensures { λ r. ⌜ r ≡ 32 + kind ⌝ }
@@ -54,14 +54,14 @@ pub fn frame_head(kind: u8) -> u8
     (1 << 5) | kind
 }
 
-// One bit and seven zero bits, as the verdict of a request and the "more" of a list stand: the bit.
+// A flag is one bit above seven zero bits, as the verdict of a request and the more bit of a list are: the flag.
 pub fn flag_of(b: u8) -> u8
     ensures { λ r. ⌜ r ≡ b / 128 ⌝ }
 {
     b >> 7
 }
 
-// The seven bits below a flag, which are to be 0.
+// The seven bits below a flag, which must be 0.
 pub fn flag_rest(b: u8) -> u8
     ensures { λ r. ⌜ r ≡ b % 128 ⌝ }
 {
@@ -75,14 +75,14 @@ pub fn flag_byte(on: bool) -> u8
     if on { 1 << 7 } else { 0 }
 }
 
-// "hash count 4 bits, 4 zero bits", as kinds 2 and 3 have it: the hash count.
+// In a frame a hash count stands above four zero bits (PROFILE 3.3, 3.4): the hash count.
 pub fn hash_count_of(b: u8) -> u8
     ensures { λ r. ⌜ r ≡ b / 16 ⌝ }
 {
     b >> 4
 }
 
-// The four bits below a hash count, which are to be 0.
+// The four bits below a hash count, which must be 0.
 pub fn hash_count_rest(b: u8) -> u8
     ensures { λ r. ⌜ r ≡ b % 16 ⌝ }
 {

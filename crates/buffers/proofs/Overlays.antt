@@ -26,7 +26,7 @@ over-length xs d at h =
     let e : length (take at d ++ xs) ≡ at + length xs = head-length xs d at (omega arith) in
     rw (length-append, e, length-drop) (omega arith)
 
--- bytes written just behind bytes: one writing of both
+-- bytes written just after bytes: one writing of both
 pub over-more : (xs ys d : Bytes) (at n : ℕ) → n ≡ at + length xs → n + length ys ≤ length d → overAt n ys (overAt at xs d) ≡ overAt at (xs ++ ys) d
 unfolding overAt
 over-more xs ys d at n e h =
@@ -38,7 +38,7 @@ over-more xs ys d at n e h =
     let v : at + length (xs ++ ys) ≡ n + length ys = rw length-append (omega arith) in
     rw (t, u, v) (ap (λ (l : Bytes). l ++ drop (n + length ys) d) (append-assoc (take at d) xs ys))
 
--- what stands before, at and behind the place
+-- what stands before, at and after the offset
 module _ (xs d : Bytes) (at : ℕ) (h : at + length xs ≤ length d) where
   pub over-before : take at (overAt at xs d) ≡ take at d
   unfolding overAt

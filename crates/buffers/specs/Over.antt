@@ -4,6 +4,6 @@ use mathlib.Core.List.{_++_}
 use lib.ListN.{length, take, drop}
 use Rattle.profile.specs.Bytes.{Bytes}
 
--- d with xs written from a place on, and the rest as it was
+-- d with xs written from an offset on, and the rest as it was
 unfoldable pub overAt : ℕ → Bytes → Bytes → Bytes
 overAt at xs d = take at d ++ xs ++ drop (at + length xs) d

@@ -1,4 +1,4 @@
-// Bytes written into a lent buffer, which leave "the rest of its buffer as found".
+// Bytes written into a lent buffer; all its other bytes stay as they are.
 ghost use mathlib.Core.Path.{_≡_};
 ghost use mathlib.Core.List.{_∷_};
 ghost use Prim.Native.Nat.{_+_, _≤_, _<_};
@@ -6,7 +6,7 @@ ghost use lib.ListN.{length};
 ghost use Rattle.profile.specs.Bytes.{part, word-bytes};
 ghost use Rattle.buffers.specs.Over.{overAt};
 
-// A part of a slot or a frame goes into a buffer at a place; bytes before and behind it stay.
+// A part of a slot or a frame goes into a buffer at an offset; the bytes before and after it stay.
 pub fn put_part(out: &mut [u8], at: usize, s: &[u8], from: usize, n: usize)
     requires { ⌜ (at + n ≤ length (now out)) × (from + n ≤ length (now s)) ⌝ }
     ensures { λ _. ⌜ now (out .exit) ≡ overAt at (part from n (now (s .entry))) (now (out .entry)) ⌝ }
@@ -15,7 +15,7 @@ pub fn put_part(out: &mut [u8], at: usize, s: &[u8], from: usize, n: usize)
     octets::arrays::copy_from(&mut out[at..e], s, from);
 }
 
-// Whole bytes go into a buffer at a place, as heads, handles and keys do.
+// Whole byte strings go into a buffer at an offset, as heads, handles and keys do.
 pub fn put_bytes(out: &mut [u8], at: usize, s: &[u8])
     requires { ⌜ at + length (now s) ≤ length (now out) ⌝ }
     ensures { λ _. ⌜ now (out .exit) ≡ overAt at (now (s .entry)) (now (out .entry)) ⌝ }
@@ -23,7 +23,7 @@ pub fn put_bytes(out: &mut [u8], at: usize, s: &[u8])
     put_part(out, at, s, 0, s.len());
 }
 
-// A number of 16 bits goes into a buffer at a place.
+// A number of 16 bits goes into a buffer at an offset.
 pub fn put_word(out: &mut [u8], at: usize, n: u16)
     requires { ⌜ at + 2 ≤ length (now out) ⌝ }
     ensures { λ _. ⌜ now (out .exit) ≡ overAt at (word-bytes n) (now (out .entry)) ⌝ }
@@ -32,7 +32,7 @@ pub fn put_word(out: &mut [u8], at: usize, n: u16)
     put_bytes(out, at, &w);
 }
 
-// "fixed heads .. travel as arrays by value": the four bytes in front of a body of n bytes, whose second is a verdict or a status.
+// The head of a frame, as an array by value: the four bytes before a body of n bytes. The second is a verdict or a status (PROFILE 3.1, 3.2).
 pub fn frame_start(kind: u8, second: u8, n: u16) -> [u8; 4]
     requires { ⌜ kind < 32 ⌝ }
     ensures { λ r. ⌜ r ≡ (32 + kind) ∷ second ∷ word-bytes n ⌝ }

@@ -68,7 +68,7 @@ module _ (p q : ℕ) (h k : Bytes) (r : Right) (n len : ℕ) (h-10 : length h �
   gap : length (zeros (160 - a)) ≡ 160 - a
   gap = length-zeros (160 - a)
 
-  -- the new slot's fields in the first i places
+  -- the new slot's first i fields
   abbrev sofar : ℕ → List Bytes
   sofar i = take i (imageFields q k r len) ++ drop i (roomFields p h n a m)
 

@@ -10,7 +10,7 @@ use Rattle.profile.specs.Bytes.{Bytes, zeros, joined}
 use Rattle.profile.proofs.Strings.{total}
 use Rattle.buffers.specs.Over.{overAt}
 
--- behind some bytes, writing goes on as if they were not there
+-- after some bytes, writing goes on as if they were not there
 over-behind : (p d x : Bytes) (at : ℕ) → overAt (length p + at) x (p ++ d) ≡ p ++ overAt at x d
 unfolding overAt
 over-behind p d x at =

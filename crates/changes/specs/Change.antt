@@ -19,13 +19,13 @@ pub record Has (table : Bytes) (i : ℕ) : Type 0 where
   pub well : wellTable table ≡ true
   pub inside : i < slotCount table
 
--- a whole, well-formed slot of a place: 0 empty, 1 reserved, 2 enabled, 3 disabled
+-- a whole, well-formed slot of a place, by its number (PROFILE 2.3)
 pub record Placed (place : ℕ) (s : Bytes) : Type 0 where
   pub long : length s ≡ slotSize
   pub well : wellSlot s ≡ true
   pub place-is : placeOf s ≡ place
 
--- the right of a request whose n hashes and payload of m bytes stand one behind the other in its frame, from a place on
+-- the right of a request whose n hashes and payload of m bytes follow each other in its frame, from an offset on
 abbrev pub rightFrom : Bytes → Count → ℕ → ℕ → Bytes → ℕ → Right
 rightFrom key count n m f at =
     record { key = key; count = count; hashes = pieces hashSize n (drop at f); payload = part (at + hashSize * n) m f }

@@ -1,39 +1,46 @@
-// One slot's bytes, changed in place from one record's to another's.
+// One slot's bytes, changed where they stand from one record's to another's.
+use profile::Count;
+use profile::place::DISABLED;
+use profile::place::ENABLED;
+use profile::place::RESERVED;
+use profile::sizes::HASH_BYTES;
+use profile::slot::COUNT_AT;
+use profile::slot::HANDLE_AT;
+use profile::slot::LENGTH_AT;
 ghost use mathlib.Core.Path.{_≡_};
 ghost use Prim.Native.Nat.{_+_, _*_, _≤_};
 ghost use lib.ListN.{length};
-ghost use Rattle.profile.specs.Bytes.{part};
+ghost use Rattle.profile.specs.Sizes.{hashSize, mostHashes, mostPayload};
 ghost use Rattle.profile.specs.Slot.{recount, reserved, enabled, disabled, taken};
-ghost use Rattle.profile.specs.Table.{rightOf, pack};
+ghost use Rattle.profile.specs.Table.{handleOf, rightOf, pack};
 ghost use Rattle.changes.specs.Change.{Placed, rightFrom};
 
-// Of an empty slot all bytes are 0, so that place, handle and length are all there is to write.
+// All bytes of an empty slot are zero, so place, handle and length are all there is to write.
 pub fn reserve(s: &mut [u8], h: [u8; 10], n: u16)
     requires { ⌜ Placed 0 (now s) ⌝ }
     ensures { λ _. ⌜ now (s .exit) ≡ pack (taken h (reserved n)) ⌝ }
 {
-    crate::fields::put_label(s, 1, 0, h);
-    buffers::put_word(s, 29, n);
+    crate::fields::put_label(s, RESERVED, 0, h);
+    buffers::put_word(s, LENGTH_AT, n);
 }
 
-// In a reserved slot "hash count, key, count and payload" are all 0: the bytes behind the hashes and the payload need no
-// writing.
+// The bytes of a reservation after its length are zero, so those after the hashes and after the payload need no writing.
 pub fn install(
     s: &mut [u8],
     h: [u8; 10],
     key: [u8; 16],
-    count: u16,
+    count: Count,
     hashes: usize,
     src: &[u8],
     at: usize,
     n: usize,
 )
-    requires { ⌜ Placed 1 (now s) × (hashes ≤ 8) × (n ≤ 4096) × (at + 20 * hashes + n ≤ length (now src)) ⌝ }
+    requires { ⌜ Placed 1 (now s) × (hashes ≤ mostHashes) × (n ≤ mostPayload) × (at + hashSize * hashes + n ≤ length (now src)) ⌝ }
     ensures { λ _. ⌜ now (s .exit) ≡ pack (taken h (enabled (rightFrom key count hashes n (now (src .entry)) at))) ⌝ }
 {
-    crate::fields::put_label(s, 2, hashes as u8, h);
+    crate::fields::put_label(s, ENABLED, hashes as u8, h);
     crate::fields::put_terms(s, key, count, n as u16);
-    crate::fields::put_content(s, src, at, 20 * hashes, n);
+    crate::fields::put_content(s, src, at, HASH_BYTES * hashes, n);
 }
 
 // The place's two bits and the handle: the right itself stays.
@@ -41,15 +48,15 @@ pub fn lend(s: &mut [u8], k: [u8; 10])
     requires { ⌜ Placed 2 (now s) ⌝ }
     ensures { λ _. ⌜ now (s .exit) ≡ pack (taken k (disabled (rightOf (now (s .entry))))) ⌝ }
 {
-    crate::fields::put_place(s, 3);
-    buffers::put_bytes(s, 1, &k);
+    crate::fields::put_place(s, DISABLED);
+    buffers::put_bytes(s, HANDLE_AT, &k);
 }
 
 // The place's two bits and the count: handle, key, hashes and payload stay.
-pub fn enable(s: &mut [u8], count: u16)
+pub fn enable(s: &mut [u8], count: Count)
     requires { ⌜ Placed 3 (now s) ⌝ }
-    ensures { λ _. ⌜ now (s .exit) ≡ pack (taken (part 1 10 (now (s .entry))) (enabled (recount count (rightOf (now (s .entry)))))) ⌝ }
+    ensures { λ _. ⌜ now (s .exit) ≡ pack (taken (handleOf (now (s .entry))) (enabled (recount count (rightOf (now (s .entry)))))) ⌝ }
 {
-    crate::fields::put_place(s, 2);
-    buffers::put_word(s, 27, count);
+    crate::fields::put_place(s, ENABLED);
+    buffers::put_word(s, COUNT_AT, count);
 }

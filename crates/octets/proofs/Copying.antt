@@ -18,7 +18,7 @@ copied-suc [] (x ∷ s) i p q = absurd (not-suc-le-zero q)
 copied-suc (y ∷ d) (x ∷ s) zero p q = refl
 copied-suc (y ∷ d) (x ∷ s) (suc i) p q = ap (λ (l : Bytes). x ∷ l) (copied-suc d s i (le-of-suc-le-suc p) (le-of-suc-le-suc q))
 
--- a turn of a copy of s's bytes from a place on, and its end
+-- a turn of a copy of s's bytes from an offset on, and its end
 pub copy-more : (d₀ s d : Bytes) (at i : ℕ) → d ≡ part at i s ++ drop i d₀ → i < length d₀ → at + i < length s → set d i (getD s (at + i) 0) ≡ part at (i + 1) s ++ drop (i + 1) d₀
 copy-more d₀ s d at i e p q =
     rw (add-one, e, ← getD-drop at s i 0) (copied-suc d₀ (drop at s) i (simp length-drop (omega arith)) p)
@@ -26,12 +26,12 @@ copy-more d₀ s d at i e p q =
 pub copy-all : (d₀ s d : Bytes) (at i : ℕ) → d ≡ part at i s ++ drop i d₀ → i ≡ length d₀ → d ≡ part at (length d₀) s
 copy-all d₀ s d at i e p = e ∙ rw (p, drop-length) (append-nil (part at (length d₀) s))
 
--- a turn of reading pieces of k bytes from a place on
+-- a turn of reading pieces of k bytes from an offset on
 pub pieces-more : (k : ℕ) (q : List Bytes) (i at : ℕ) (s : Bytes) → i < length q → take i q ≡ pieces k i (drop at s) → take (i + 1) (set q i (part (at + k * i) k s)) ≡ pieces k (i + 1) (drop at s)
 pieces-more k q i at s h e =
     rw (add-one, take-suc-set, e, ← part-drop at (k * i) k s) (sym (pieces-snoc k i (drop at s)))
 
--- what is not read yet, from the place of the turn on, stays as it was made
+-- what is not read yet, from the turn on, stays as it was made
 drop-one : (z : Bytes) (k : ℕ) → drop 1 (replicate k z) ≡ replicate (k - 1) z
 drop-one z zero = refl
 drop-one z (suc k) =

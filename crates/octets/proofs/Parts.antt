@@ -1,4 +1,4 @@
--- Parts of a string: a byte of one, all of the string as one, and a part of what is left behind a place. Assumes nothing.
+-- Parts of a string: a byte of one, all of the string as one, and a part of what is left after an offset. Assumes nothing.
 use mathlib.Core.Path.{_≡_, ap}
 use Prim.Native.Nat.{ℕ, _+_, _<_}
 use lib.ListN.{length, take, drop, getD}

@@ -1,11 +1,13 @@
 // Handles, keys and hashes read from a frame or a slot as arrays by value.
+use profile::sizes::HASH_BYTES;
 ghost use mathlib.Core.Path.{_≡_};
 ghost use mathlib.Core.List.{_++_};
 ghost use Prim.Native.Nat.{_+_, _-_, _*_, _≤_};
 ghost use lib.ListN.{length, drop, replicate};
 ghost use Rattle.profile.specs.Bytes.{part, pieces, zeros};
+ghost use Rattle.profile.specs.Sizes.{handleSize, keySize, hashSize, mostHashes};
 
-// The one copying loop: arrays of every width, and parts of a buffer, are filled by it.
+// The one copying loop: it fills arrays of every width, and parts of a buffer.
 pub fn copy_from(d: &mut [u8], s: &[u8], at: usize)
     requires { ⌜ at + length (now d) ≤ length (now s) ⌝ }
     ensures { λ _. ⌜ now (d .exit) ≡ part at (length (now (d .entry))) (now (s .entry)) ⌝ }
@@ -17,45 +19,45 @@ pub fn copy_from(d: &mut [u8], s: &[u8], at: usize)
     }
 }
 
-// "ten-byte handles .. travel as arrays by value".
+// A handle, as an array by value.
 pub fn handle_at(s: &[u8], at: usize) -> [u8; 10]
-    requires { ⌜ at + 10 ≤ length (now s) ⌝ }
-    ensures { λ r. ⌜ r ≡ part at 10 (now (s .entry)) ⌝ }
+    requires { ⌜ at + handleSize ≤ length (now s) ⌝ }
+    ensures { λ r. ⌜ r ≡ part at handleSize (now (s .entry)) ⌝ }
 {
     let mut h = [0u8; 10];
     copy_from(&mut h, s, at);
     h
 }
 
-// "sixteen-byte keys travel as arrays by value".
+// A key, as an array by value.
 pub fn key_at(s: &[u8], at: usize) -> [u8; 16]
-    requires { ⌜ at + 16 ≤ length (now s) ⌝ }
-    ensures { λ r. ⌜ r ≡ part at 16 (now (s .entry)) ⌝ }
+    requires { ⌜ at + keySize ≤ length (now s) ⌝ }
+    ensures { λ r. ⌜ r ≡ part at keySize (now (s .entry)) ⌝ }
 {
     let mut k = [0u8; 16];
     copy_from(&mut k, s, at);
     k
 }
 
-// One asset hash of 20 bytes (SHA-1).
+// One asset hash, as an array by value.
 pub fn hash_at(s: &[u8], at: usize) -> [u8; 20]
-    requires { ⌜ at + 20 ≤ length (now s) ⌝ }
-    ensures { λ r. ⌜ r ≡ part at 20 (now (s .entry)) ⌝ }
+    requires { ⌜ at + hashSize ≤ length (now s) ⌝ }
+    ensures { λ r. ⌜ r ≡ part at hashSize (now (s .entry)) ⌝ }
 {
     let mut hash = [0u8; 20];
     copy_from(&mut hash, s, at);
     hash
 }
 
-// "a query's hashes as a local array of arrays": the first n are the query's, in its order, and the rest are all zero.
+// The hashes of a list query, as an array of arrays: the first n are the query's, in its order, and the rest are all zero.
 pub fn hashes_at(s: &[u8], at: usize, n: usize) -> [[u8; 20]; 8]
-    requires { ⌜ (n ≤ 8) × (at + 20 * n ≤ length (now s)) ⌝ }
-    ensures { λ r. ⌜ r ≡ pieces 20 n (drop at (now (s .entry))) ++ replicate (8 - n) (zeros 20) ⌝ }
+    requires { ⌜ (n ≤ mostHashes) × (at + hashSize * n ≤ length (now s)) ⌝ }
+    ensures { λ r. ⌜ r ≡ pieces hashSize n (drop at (now (s .entry))) ++ replicate (mostHashes - n) (zeros hashSize) ⌝ }
 {
     let mut q = [[0u8; 20]; 8];
     let mut i = 0;
     while i < n {
-        q[i] = hash_at(s, at + 20 * i);
+        q[i] = hash_at(s, at + HASH_BYTES * i);
         i += 1;
     }
     q

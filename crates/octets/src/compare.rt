@@ -4,7 +4,7 @@ ghost use Prim.Native.Nat.{_+_, _≤_};
 ghost use lib.ListN.{length};
 ghost use Rattle.profile.specs.Bytes.{part, same};
 
-// The one comparing loop, which stops at the first byte that differs: two slots' handles are told apart by it in place.
+// The one comparing loop, which stops at the first byte that differs. Handles are compared by it where they stand in their slots.
 fn same_parts(s: &[u8], a: usize, t: &[u8], b: usize, n: usize) -> bool
     requires { ⌜ (a + n ≤ length (now s)) × (b + n ≤ length (now t)) ⌝ }
     ensures { λ r. ⌜ r ≡ same (part a n (now (s .entry))) (part b n (now (t .entry))) ⌝ }
@@ -19,7 +19,7 @@ fn same_parts(s: &[u8], a: usize, t: &[u8], b: usize, n: usize) -> bool
     true
 }
 
-// Whether the whole of `a` stands in `s` at a place.
+// Whether the whole of `a` stands in `s` at an offset.
 pub fn same_from(a: &[u8], s: &[u8], at: usize) -> bool
     requires { ⌜ at + length (now a) ≤ length (now s) ⌝ }
     ensures { λ r. ⌜ r ≡ same (now (a .entry)) (part at (length (now (a .entry))) (now (s .entry))) ⌝ }

@@ -19,7 +19,7 @@ module _ (k : ℕ) where
       e : k + k * i ≡ k * suc i
       e = omega arith
 
-  -- what is left from piece i on: it, and what is left behind it
+  -- what is left from piece i on: it, and what is left after it
   pub pieces-step : (n i : ℕ) (s : Bytes) → i < n → drop i (pieces k n s) ≡ part (k * i) k s ∷ drop (i + 1) (pieces k n s)
   pieces-step n i s h = rw (add-one, ← getD-pieces n i s h) (drop-cons (pieces k n s) i [] (rw (length-pieces k n s) h))
 

@@ -38,7 +38,7 @@ module _ (s : Bytes) where
   unfolding unpack
   unpack-disabled n e = rw e
 
-  -- "all but empty have a handle"
+  -- every slot but an empty one has a handle
   pub unpack-taken : (placeOf s ≡ 0 → ⊥) → (e : Entry) × (unpack s ≡ taken (part 1 10 s) e)
   unpack-taken no-empty = go (placeOf s) refl
     where

@@ -63,7 +63,7 @@ module _ (s : Bytes) (len-s : length s ≡ 4288) where
   pub zero-tail : (at : ℕ) → allZero (part at (4288 - at) s) ≡ allZero (drop at s)
   zero-tail at = ap allZero (take-all (4288 - at) (drop at s) (rw (length-drop at s) (omega arith)))
 
-  -- "hash bytes beyond the count", and byte 191 behind them
+  -- the bytes after the last hash, and byte 191 after them
   pub zero-gap : (a : ℕ) → a ≤ 191 → allZero (part a (192 - a) s) ≡ (eqb (byte 191 s) 0 && allZero (part a (191 - a) s))
   zero-gap a h =
       let n = 191 - a in
@@ -117,7 +117,7 @@ module _ (s : Bytes) (well : wellSlot s ≡ true) where
   pub few-hashes : hashCountOf s ≤ 8
   few-hashes = well-slot s well .few
 
-  -- a slot that is not empty has "length 1 to 4,096"
+  -- a slot that is not empty has a length of 1 to 4,096
   pub length-1-to-4096 : (placeOf s ≡ 0 → ⊥) → (1 ≤ word 29 s) × (word 29 s ≤ 4096)
   length-1-to-4096 taken = go (placeOf s) refl
     where

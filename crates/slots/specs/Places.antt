@@ -1,10 +1,9 @@
--- The places of document 01, "Slots", by their numbers.
+-- The places of a record, by their numbers (PROFILE 2.3).
 use Prim.Native.Nat.{ℕ}
 use Rattle.profile.specs.Slot.{Entry, reserved, enabled, disabled}
 use Rattle.slots.specs.declared.place.Place.{Place}
 use Rattle.slots.specs.declared.place.Place.the-variants.{Empty, Reserved, Enabled, Disabled}
 
--- "0 empty, 1 reserved, 2 enabled, 3 disabled"
 abbrev pub placeNumber : Place → ℕ
 placeNumber Empty = 0
 placeNumber Reserved = 1

@@ -1,15 +1,17 @@
-// The hashes of a record against those of a list query.
+// The hashes of a record against those of a list query (PROFILE 5.8).
 use crate::place::Place;
+use profile::slot::GAP_AT;
+use profile::slot::HASHES_AT;
 ghost use mathlib.Core.Path.{_≡_};
 ghost use mathlib.Core.List.{[], _∷_};
 ghost use Prim.Native.Nat.{_≤_, _*_};
 ghost use lib.ListN.{length, take};
-ghost use Rattle.profile.specs.Bytes.{part, pieces, same, any, if_then_else_};
-ghost use Rattle.profile.specs.Sizes.{hashSize};
-ghost use Rattle.profile.specs.Table.{unpack, hashCountOf, rightOf};
+ghost use Rattle.profile.specs.Bytes.{pieces, same, any, if_then_else_};
+ghost use Rattle.profile.specs.Sizes.{slotSize, hashSize, mostHashes};
+ghost use Rattle.profile.specs.Table.{unpack, hashCountOf, handleOf, rightOf};
 ghost use Rattle.profile.specs.Agent.{listedSlot};
 
-// "read from the slot itself, one after another, without a copy of the list": whether a query's hash is one of the record's.
+// Whether a query's hash is one of the record's, which are read from the slot one after another, without a copy of the list.
 fn has_hash(bytes: &[u8], count: usize, asked: [u8; 20]) -> bool
     requires { ⌜ hashSize * count ≤ length (now bytes) ⌝ }
     ensures { λ r. ⌜ r ≡ any (same asked) (pieces hashSize count (now (bytes .entry))) ⌝ }
@@ -27,7 +29,7 @@ fn has_hash(bytes: &[u8], count: usize, asked: [u8; 20]) -> bool
 
 // Whether one of the query's n hashes is one of the record's.
 fn has_one_of(bytes: &[u8], count: usize, q: [[u8; 20]; 8], n: usize) -> bool
-    requires { ⌜ (n ≤ 8) × (hashSize * count ≤ length (now bytes)) ⌝ }
+    requires { ⌜ (n ≤ mostHashes) × (hashSize * count ≤ length (now bytes)) ⌝ }
     ensures { λ r. ⌜ r ≡ any (λ x. any (same x) (pieces hashSize count (now (bytes .entry)))) (take n q) ⌝ }
 {
     let mut k = 0;
@@ -40,22 +42,22 @@ fn has_one_of(bytes: &[u8], count: usize, q: [[u8; 20]; 8], n: usize) -> bool
     false
 }
 
-// One of the record's hashes is one of the query's n. Without a hash in the record the query is not looked at, nor copied.
+// Whether one of the record's hashes is one of the query's n. If the record has no hash, the query is neither looked at nor copied.
 pub fn has_some(s: &[u8], q: [[u8; 20]; 8], n: usize) -> bool
-    requires { ⌜ (n ≤ 8) × (length (now s) ≡ 4288) × (hashCountOf (now s) ≤ 8) ⌝ }
+    requires { ⌜ (n ≤ mostHashes) × (length (now s) ≡ slotSize) × (hashCountOf (now s) ≤ mostHashes) ⌝ }
     ensures { λ r. ⌜ r ≡ any (λ x. any (same x) (rightOf (now (s .entry)) .hashes)) (take n q) ⌝ }
 {
     let count = bits::fields::slot_hashes(s[0]) as usize;
     if count == 0 {
         return false;
     }
-    has_one_of(&s[31..191], count, q, n)
+    has_one_of(&s[HASHES_AT..GAP_AT], count, q, n)
 }
 
-// 8: "the handles of enabled records that have some hash of the request; with hash count 0, of all enabled records".
+// Whether the record goes into the list: it is enabled, and has one of the query's hashes or the query has none.
 pub fn is_listed(s: &[u8], q: [[u8; 20]; 8], n: usize) -> bool
-    requires { ⌜ (n ≤ 8) × (length (now s) ≡ 4288) × (hashCountOf (now s) ≤ 8) ⌝ }
-    ensures { λ r. ⌜ listedSlot (take n q) (unpack (now (s .entry))) ≡ (if r then part 1 10 (now (s .entry)) ∷ [] else []) ⌝ }
+    requires { ⌜ (n ≤ mostHashes) × (length (now s) ≡ slotSize) × (hashCountOf (now s) ≤ mostHashes) ⌝ }
+    ensures { λ r. ⌜ listedSlot (take n q) (unpack (now (s .entry))) ≡ (if r then handleOf (now (s .entry)) ∷ [] else []) ⌝ }
 {
     let place = crate::place::place_of(s);
     match place {

@@ -1,4 +1,4 @@
-// The place of a record: "0 empty, 1 reserved, 2 enabled, 3 disabled".
+// The place of a record (PROFILE 2.3).
 ghost use mathlib.Core.Path.{_≡_};
 ghost use Prim.Native.Nat.{_<_};
 ghost use lib.ListN.{length};
@@ -12,7 +12,7 @@ pub enum Place {
     Disabled,
 }
 
-// Byte 0 begins with "place 2 bits", which have no fifth value.
+// The two bits of the place have four values, so every slot has one of the four places.
 pub fn place_of(s: &[u8]) -> Place
     requires { ⌜ 0 < length (now s) ⌝ }
     ensures { λ r. ⌜ placeNumber r ≡ placeOf (now (s .entry)) ⌝ }

@@ -1,5 +1,6 @@
-// "a small reader holds the slot's hash bytes and a position": two thin functions over it and one with plain parameters above
-// them, each proved by hand. Whoever calls that one needs no reader.
+// A small reader that holds a slot's hash bytes and a position: two thin functions over it, and above them one with plain
+// parameters, which serves every caller. The three are proved by hand.
+use profile::sizes::HASH_BYTES;
 ghost use mathlib.Core.Path.{_≡_};
 ghost use Rattle.slots.specs.Readers.{hashAt, HashStands, readerAt, hashRead, Reads};
 
@@ -13,7 +14,7 @@ fn nth_hash(bytes: &[u8], at: usize) -> [u8; 20]
     requires { ⌜ HashStands at (now bytes) ⌝ }
     ensures { λ r. ⌜ r ≡ hashAt at (now (bytes .entry)) ⌝ }
 {
-    octets::arrays::hash_at(bytes, 20 * at)
+    octets::arrays::hash_at(bytes, HASH_BYTES * at)
 }
 
 // A reader of some hash bytes, at a position.
@@ -31,7 +32,7 @@ fn read<'a>(reader: HashReader<'a>) -> [u8; 20]
     nth_hash(reader.bytes, reader.at)
 }
 
-// Hash i of a slot's hash bytes, from 0, by a reader of them.
+// Hash i of a slot's hash bytes, counted from 0, through a reader of them.
 pub(crate) fn hash_of(bytes: &[u8], i: usize) -> [u8; 20]
     requires { ⌜ HashStands i (now bytes) ⌝ }
     ensures { λ r. ⌜ r ≡ hashAt i (now (bytes .entry)) ⌝ }

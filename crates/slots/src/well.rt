@@ -1,14 +1,23 @@
-// When a slot is well formed.
+// When a slot is well formed (PROFILE 2.4).
 use crate::head::Head;
 use crate::place::Place;
+use profile::sizes::HASH_BYTES;
+use profile::sizes::MOST_HASHES;
+use profile::sizes::MOST_PAYLOAD;
+use profile::sizes::SLOT_BYTES;
+use profile::slot::HASHES_AT;
+use profile::slot::KEY_AT;
+use profile::slot::LENGTH_AT;
+use profile::slot::PAYLOAD_AT;
 ghost use mathlib.Core.Path.{_≡_};
 ghost use Prim.Native.Nat.{_≤_, _<_};
 ghost use lib.ListN.{length};
+ghost use Rattle.profile.specs.Sizes.{slotSize};
 ghost use Rattle.profile.specs.Table.{placeOf, wellSlot};
 ghost use Rattle.slots.specs.Heads.{HeadOf};
 ghost use Rattle.slots.specs.Taken.{payloadIn, awaitsWell};
 
-// "Reserved: length 1 to 4,096 (the room asked for)": how many payload bytes of a record may be other than 0.
+// How many payload bytes of a record may be other than 0. The length of a reservation is the room asked for: it has no payload yet.
 fn payload_in(place: Place, length: usize) -> usize
     ensures { λ r. ⌜ (r ≡ payloadIn place length) × (r ≤ length) ⌝ }
 {
@@ -20,14 +29,14 @@ fn payload_in(place: Place, length: usize) -> usize
     }
 }
 
-// "Reserved: .. hash count, key, count .. all 0."
+// A reservation has no hash, and its key and count are zero.
 fn awaits_well(s: &[u8], place: Place, hashes: usize) -> bool
-    requires { ⌜ length (now s) ≡ 4288 ⌝ }
+    requires { ⌜ length (now s) ≡ slotSize ⌝ }
     ensures { λ r. ⌜ r ≡ awaitsWell place hashes (now (s .entry)) ⌝ }
 {
     match place {
         Place::Reserved => {
-            let no_key = zeros::zero_part(s, 11, 29);
+            let no_key = zeros::zero_part(s, KEY_AT, LENGTH_AT);
             (hashes == 0) & no_key
         }
         Place::Empty => true,
@@ -36,32 +45,32 @@ fn awaits_well(s: &[u8], place: Place, hashes: usize) -> bool
     }
 }
 
-// "spare bits and byte 191 are 0; hash count is at most 8; hash bytes beyond the count and payload bytes beyond the
-// length are 0"; and of every place but empty, "length 1 to 4,096". Only the tests that bound a part leave at once.
+// The rules for a slot that is not empty: spare bits, the bytes between the last hash and the payload, and those after the payload
+// are zero; hash count and length are in bounds. Only the tests that bound a part return at once.
 fn well_taken(s: &[u8], head: Head) -> bool
-    requires { ⌜ (length (now s) ≡ 4288) × HeadOf (now s) head × (0 < placeOf (now s)) ⌝ }
+    requires { ⌜ (length (now s) ≡ slotSize) × HeadOf (now s) head × (0 < placeOf (now s)) ⌝ }
     ensures { λ r. ⌜ r ≡ wellSlot (now (s .entry)) ⌝ }
 {
     let place = head.place;
     let hashes = head.hashes;
     let length = head.length;
-    if hashes > 8 {
+    if hashes > MOST_HASHES {
         return false;
     }
-    if length > 4096 {
+    if length > MOST_PAYLOAD {
         return false;
     }
     let payload = payload_in(place, length);
     let spare = bits::fields::slot_spare(s[0]);
-    let gap = zeros::zero_part(s, 31 + 20 * hashes, 192);
-    let rest = zeros::zero_part(s, 192 + payload, 4288);
+    let gap = zeros::zero_part(s, HASHES_AT + HASH_BYTES * hashes, PAYLOAD_AT);
+    let rest = zeros::zero_part(s, PAYLOAD_AT + payload, SLOT_BYTES);
     let awaits = awaits_well(s, place, hashes);
     (spare == 0) & gap & rest & (0 < length) & awaits
 }
 
-// "Empty: all 4,288 bytes are 0"; any other slot has a record.
+// All bytes of an empty slot are zero; any other slot has a record.
 pub fn well_slot(s: &[u8]) -> bool
-    requires { ⌜ length (now s) ≡ 4288 ⌝ }
+    requires { ⌜ length (now s) ≡ slotSize ⌝ }
     ensures { λ r. ⌜ r ≡ wellSlot (now (s .entry)) ⌝ }
 {
     let head = crate::head::head_of(s);

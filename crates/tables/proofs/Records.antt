@@ -102,7 +102,7 @@ module _ (t h : Bytes) (i : ℕ) where
       known : s .entry ≡ entryOf p (part (4288 * i) 4288 t)
       known = entry-is (part (4288 * i) 4288 t) h (s .entry) unpacked ∙ ap (λ (q : Place). entryOf q (part (4288 * i) 4288 t)) (s .placed)
 
-  -- in a well-formed table its slot is well formed, with "length 1 to 4,096"
+  -- in a well-formed table its slot is well formed, with a length of 1 to 4,096
   pub record-fits : (e : Entry) → wellTable t ≡ true → RecordAt t h i e → RecordFits (part (4288 * i) 4288 t)
   record-fits e w r = record { sized = length-slot t i (r .below); well = well; few = few-hashes (part (4288 * i) 4288 t) well; long = length-1-to-4096 (part (4288 * i) 4288 t) well taken-slot }
     where
@@ -112,7 +112,7 @@ module _ (t h : Bytes) (i : ℕ) where
       taken-slot : placeOf (part (4288 * i) 4288 t) ≡ 0 → ⊥
       taken-slot z = empty-taken h e (sym (unpack-empty (part (4288 * i) 4288 t) z) ∙ r .unpacked)
 
-  -- "all but empty have a handle"
+  -- every slot but an empty one has a handle
   pub none-empty : lookUp h (slotsOf t) ≡ At i Empty → ⊥
   none-empty l = go (s .entry) (s .placed)
     where

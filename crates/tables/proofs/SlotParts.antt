@@ -43,7 +43,7 @@ module _ (t : Bytes) where
   pub slots-step : (i : ℕ) → i < slotCount t → drop i (slotsOf t) ≡ unpack (part (4288 * i) 4288 t) ∷ drop (i + 1) (slotsOf t)
   slots-step i h = rw (add-one, ← unpacked-at i h) (drop-cons (slotsOf t) i (unpack []) (rw length-slots h))
 
-  -- behind the last
+  -- after the last
   pub bytes-end : (i : ℕ) → slotCount t ≤ i → drop i (slotBytes t) ≡ []
   bytes-end i h = drop-of-length-le (slotBytes t) {i = i} (rw length-bytes h)
 

@@ -1,4 +1,4 @@
--- One turn of each loop over the slots, and its end: what the slots from i on say, from slot i and the slots behind it. Assumes nothing.
+-- One turn of each loop over the slots, and its end: what the slots from i on say, from slot i and the slots after it. Assumes nothing.
 use Prim.Native.Nat.{ℕ, suc, _+_, _*_, _≤_, _<_}
 use mathlib.Core.Path.{_≡_, refl, ap, _∙_}
 use mathlib.Core.List.{List, [], _∷_, _++_}
@@ -14,7 +14,7 @@ use Rattle.tables.specs.Again.{again}
 use Rattle.tables.specs.LookUp.{firstUnder}
 use Rattle.tables.proofs.SlotParts.{bytes-step, bytes-end, slots-step, slots-end}
 
--- ---- distinct handles: the first slot's stands again behind it, or not
+-- ---- distinct handles: the first slot's stands again in a later one, or not
 distinct-first : (t : List Slot) (x : Slot) → distinct (x ∷ t) ≡ (not (again (x ∷ t)) && distinct t)
 unfolding again
 distinct-first t empty = refl
@@ -65,7 +65,7 @@ module _ (t : Bytes) (i : ℕ) (h : i < slotCount t) (s : Bytes) (e : s ≡ part
   pub listed-pass : (q : List Bytes) → listed q (drop i (slotsOf t)) ≡ listedSlot q (unpack s) ++ listed q (drop (i + 1) (slotsOf t))
   listed-pass q = rw slots-from
 
--- ---- behind the last slot
+-- ---- after the last slot
 module _ (t : Bytes) (i : ℕ) (h : slotCount t ≤ i) where
   pub well-end : all wellSlot (drop i (slotBytes t)) ≡ true
   well-end = rw (bytes-end t i h)

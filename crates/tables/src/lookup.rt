@@ -1,4 +1,5 @@
 // The record under a handle.
+use profile::sizes::SLOT_BYTES;
 use slots::place::Place;
 ghost use mathlib.Core.Path.{_≡_};
 ghost use Rattle.profile.specs.Table.{slotsOf};
@@ -11,12 +12,12 @@ pub enum Lookup {
     At(usize, Place),
 }
 
-// 8 and 4: "the request's handle is in more than one slot; tested just before 4".
+// The record under the request's handle; that two slots have it is found before that none has (PROFILE 4.2, statuses 8 and 4).
 pub fn look_up(t: &[u8], h: [u8; 10]) -> Lookup
     ensures { λ r. ⌜ r ≡ lookUp h (slotsOf (now (t .entry))) ⌝ }
 {
     let i = crate::handle::first_under(t, &h, 0);
-    if i >= t.len() / 4288 {
+    if i >= t.len() / SLOT_BYTES {
         return Lookup::Absent;
     }
     if crate::handle::in_use_from(t, &h, i + 1) {

@@ -1,5 +1,8 @@
-// When a table of slots is well formed.
+// When a table of slots is well formed (PROFILE 2.5).
 use crate::part::slot_at;
+use profile::sizes::SLOT_BYTES;
+use profile::slot::HANDLE_AT;
+use profile::slot::KEY_AT;
 ghost use mathlib.Core.Path.{_≡_};
 ghost use Prim.Native.Nat.{_<_};
 ghost use lib.ListN.{drop};
@@ -8,11 +11,11 @@ ghost use Rattle.profile.specs.Slot.{distinct};
 ghost use Rattle.profile.specs.Table.{wellSlot, wellTable, slotCount, slotBytes, slotsOf};
 ghost use Rattle.tables.specs.Again.{again};
 
-// "A table is well formed when its slots are".
+// Each slot is well formed.
 fn all_well(t: &[u8]) -> bool
     ensures { λ r. ⌜ r ≡ all wellSlot (slotBytes (now (t .entry))) ⌝ }
 {
-    let n = t.len() / 4288;
+    let n = t.len() / SLOT_BYTES;
     let mut i = 0;
     while i < n {
         if !slots::well::well_slot(slot_at(t, i)) {
@@ -23,7 +26,7 @@ fn all_well(t: &[u8]) -> bool
     true
 }
 
-// Whether the handle of slot i stands in a slot behind it too.
+// Whether a later slot has the handle of slot i too.
 fn stands_again(t: &[u8], i: usize) -> bool
     requires { ⌜ i < slotCount (now t) ⌝ }
     ensures { λ r. ⌜ r ≡ again (drop i (slotsOf (now (t .entry)))) ⌝ }
@@ -32,14 +35,14 @@ fn stands_again(t: &[u8], i: usize) -> bool
     if bits::fields::slot_place(s[0]) == 0 {
         return false;
     }
-    crate::handle::in_use_from(t, &s[1..11], i + 1)
+    crate::handle::in_use_from(t, &s[HANDLE_AT..KEY_AT], i + 1)
 }
 
-// "no two non-empty slots have the same handle": each handle is looked for in the slots behind its own.
+// No two slots that are not empty have one handle: each handle is looked for in the slots after its own.
 fn all_distinct(t: &[u8]) -> bool
     ensures { λ r. ⌜ r ≡ distinct (slotsOf (now (t .entry))) ⌝ }
 {
-    let n = t.len() / 4288;
+    let n = t.len() / SLOT_BYTES;
     let mut i = 0;
     while i < n {
         if stands_again(t, i) {
@@ -50,7 +53,7 @@ fn all_distinct(t: &[u8]) -> bool
     true
 }
 
-// 103: "table not well formed".
+// The slots, and then their handles; a table for which this is false is refused with 103.
 pub fn well_table(t: &[u8]) -> bool
     ensures { λ r. ⌜ r ≡ wellTable (now (t .entry)) ⌝ }
 {

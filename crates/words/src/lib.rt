@@ -4,7 +4,7 @@ ghost use Prim.Native.Nat.{_+_, _*_, _/_, _%_, _≤_};
 ghost use lib.ListN.{length};
 ghost use Rattle.profile.specs.Bytes.{word, word-bytes};
 
-// The number of two bytes.
+// The number that two bytes make.
 fn word_of(high: u8, low: u8) -> u16
     ensures { λ r. ⌜ r ≡ 256 * high + low ⌝ }
 {
@@ -25,7 +25,7 @@ pub fn low_of(n: u16) -> u8
     (n & 255) as u8
 }
 
-// The number that stands in a slot or a frame at a place.
+// The number at an offset of a slot or a frame.
 pub fn word_at(s: &[u8], at: usize) -> u16
     requires { ⌜ at + 2 ≤ length (now s) ⌝ }
     ensures { λ r. ⌜ r ≡ word at (now (s .entry)) ⌝ }

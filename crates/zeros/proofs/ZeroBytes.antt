@@ -34,7 +34,7 @@ pub zero-both : (a b : Bytes) → allZero (a ++ b) ≡ (allZero a && allZero b)
 zero-both [] b = refl
 zero-both (x ∷ a) b = rw (zero-both a b, and-assoc)
 
--- the bytes from i on: a part of n, and those behind it
+-- the bytes from i on: a part of n, and those after it
 pub zero-split : (s : Bytes) (i n : ℕ) → allZero (drop i s) ≡ (allZero (part i n s) && allZero (drop (i + n) s))
 zero-split s i n =
     ap allZero (sym (take-append-drop n (drop i s))) ∙ zero-both (part i n s) (drop n (drop i s)) ∙ rw (drop-drop n i s)
@@ -51,7 +51,7 @@ zero-stop s i e z = rw (zero-split s i (e - i), z)
 pub zero-last : (s : Bytes) (i : ℕ) → allZero (part i (length s - i) s) ≡ allZero (drop i s)
 zero-last s i = rw (take-all (length s - i) (drop i s) (simp length-drop (omega arith)))
 
--- ---- what is left to look at, behind blocks that were all 0
+-- ---- what is left to look at, after blocks that were all 0
 pub record Left (s rest : Bytes) : Type 0 where
   pub short : length rest ≤ length s
   pub behind : rest ≡ drop (length s - length rest) s

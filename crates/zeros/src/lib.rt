@@ -1,4 +1,4 @@
-// Zero bytes: tested, as the unused bytes of a well-formed slot are, and written, where a slot is cleared.
+// Zero bytes: tested, since the unused bytes of a well-formed slot are zero, and written, where a slot is cleared.
 ghost use mathlib.Core.Path.{_≡_};
 ghost use Prim.Native.Nat.{_-_, _≤_};
 ghost use lib.ListN.{length};
@@ -17,7 +17,7 @@ fn zero_block(s: &[u8]) -> bool
     acc == 0
 }
 
-// "Empty: all 4,288 bytes are 0." Blocks of 512 bytes, and an exit behind each that has a byte other than 0.
+// Whether all bytes are zero, as those of an empty slot are (PROFILE 2.4). Blocks of 512 bytes, with an exit after each that has another byte.
 pub fn all_zero(s: &[u8]) -> bool
     ensures { λ r. ⌜ r ≡ allZero (now (s .entry)) ⌝ }
 {
@@ -31,7 +31,7 @@ pub fn all_zero(s: &[u8]) -> bool
     zero_block(rest)
 }
 
-// Some bytes: blocks of 64, and then the last 64 bytes once more, with those that no block had.
+// Some bytes: blocks of 64, and then the last 64 bytes once more, which include those that no block had.
 fn zero_rest(s: &[u8]) -> bool
     ensures { λ r. ⌜ r ≡ allZero (now (s .entry)) ⌝ }
 {
@@ -48,7 +48,7 @@ fn zero_rest(s: &[u8]) -> bool
     zero_block(&s[s.len() - 64..])
 }
 
-// "hash bytes beyond the count and payload bytes beyond the length are 0": a part of a slot, of any length.
+// Whether a part of a slot is zero, as the bytes after the last hash and after the payload are (PROFILE 2.4). The part may have any length.
 pub fn zero_part(s: &[u8], from: usize, to: usize) -> bool
     requires { ⌜ (from ≤ to) × (to ≤ length (now s)) ⌝ }
     ensures { λ r. ⌜ r ≡ allZero (part from (to - from) (now (s .entry))) ⌝ }
@@ -63,7 +63,7 @@ pub fn zero_part(s: &[u8], from: usize, to: usize) -> bool
     zero_rest(rest)
 }
 
-// "All bytes of the slot become 0": all of what is lent.
+// Makes all bytes zero that are lent, as the removals do with a slot (PROFILE 5.6, 5.7).
 pub fn clear(d: &mut [u8])
     ensures { λ _. ⌜ now (d .exit) ≡ zeros (length (now (d .entry))) ⌝ }
 {

@@ -1,4 +1,4 @@
--- `tables::table::stands_again` meets its contract: an empty slot has no handle, and any other is looked for behind itself. Assumes nothing.
+-- `tables::table::stands_again` meets its contract: an empty slot has no handle, and any other's is looked for in the slots after it. Assumes nothing.
 use denote.Ref.{now}
 use mathlib.Core.Path.{sym, _∙_}
 use Rattle.tables.proofs.Turns.{again-empty, again-taken}
