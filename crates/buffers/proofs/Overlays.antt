@@ -34,7 +34,8 @@ over-more xs ys d at n e h =
     let q : length p ≡ n = head-length xs d at (omega arith) ∙ sym e in
     let t : take n (p ++ drop (at + length xs) d) ≡ p = take-at p (drop (at + length xs) d) n q in
     let u : drop (n + length ys) (p ++ drop (at + length xs) d) ≡ drop (n + length ys) d =
-    sym (drop-drop (length ys) n (p ++ drop (at + length xs) d)) ∙ ap (λ (l : Bytes). drop (length ys) l) (drop-at p (drop (at + length xs) d) n q ∙ ap (λ (k : ℕ). drop k d) (sym e)) ∙ drop-drop (length ys) n d in
+    sym (drop-drop (length ys) n (p ++ drop (at + length xs) d))
+    ∙ ap (λ (l : Bytes). drop (length ys) l) (drop-at p (drop (at + length xs) d) n q ∙ ap (λ (k : ℕ). drop k d) (sym e)) ∙ drop-drop (length ys) n d in
     let v : at + length (xs ++ ys) ≡ n + length ys = rw length-append (omega arith) in
     rw (t, u, v) (ap (λ (l : Bytes). l ++ drop (n + length ys) d) (append-assoc (take at d) xs ys))
 

@@ -145,5 +145,6 @@ module _ (key : Bytes) (count : Count) (n m : ℕ) (f : Bytes) (at : ℕ) (k-16 
   given-stored s₀ s₁ s₂ s₃ h bytes e w e₁ e₂ e₃ = rw (e₃, e₂, e₁) (sym same ∙ installs s₀ bytes h (rightFrom key count n m f at) e given-room w)
     where
       same : written 2 h (rightFrom key count n m f at) (length (rightFrom key count n m f at .payload)) s₀
-          ≡ overAt 192 (part (at + 20 * n) m f) (overAt 31 (part at (20 * n) f) (overAt 29 (word-bytes m) (overAt 27 (word-bytes count) (overAt 11 key (overAt 1 h (overAt 0 ((64 * 2 + 4 * n) ∷ []) s₀))))))
+          ≡ overAt 192 (part (at + 20 * n) m f)
+          (overAt 31 (part at (20 * n) f) (overAt 29 (word-bytes m) (overAt 27 (word-bytes count) (overAt 11 key (overAt 1 h (overAt 0 ((64 * 2 + 4 * n) ∷ []) s₀))))))
       same = rw (given-bytes, given-payload, given-hashes, add-zero)

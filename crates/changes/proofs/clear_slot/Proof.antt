@@ -33,12 +33,13 @@ same-length c = search needs
 
 returns : tie.Need-returns
 returns c =
-    let known = c .before .before .before .before in
+    let back = c .before .before in
+    let known = back .before .before in
     let start = known .before in
     let t = now (start .args .t) in
     let i = start .args .i in
     let k = 4288 * i + 4288 - 4288 * i in
-    changed t i (start .pre) (below-256 t (known .slice-known .given)) (λ _. empty) (c .before .before .clear .last .0) k (omega arith) (c .before .before .clear .ensures ∙ lent-zeros t i (start .pre) k (omega arith))
+    changed t i (start .pre) (below-256 t (known .slice-known .given)) (λ _. empty) (back .clear .last .0) k (omega arith) (back .clear .ensures ∙ lent-zeros t i (start .pre) k (omega arith))
 
 pub clear-slot-spec : {M : Type 1} → statement M
 clear-slot-spec =

@@ -2,9 +2,8 @@
 use denote.Ref.{now}
 use Prim.Native.Nat.{_+_, _-_, _*_}
 use native.Mathlib.Omega.{arith}
-use Rattle.profile.specs.Bytes.{part}
 use Rattle.profile.specs.Slot.{recount, enabled, taken}
-use Rattle.profile.specs.Table.{rightOf}
+use Rattle.profile.specs.Table.{handleOf, rightOf}
 use Rattle.octets.proofs.ByteBounds.{below-256}
 use Rattle.changes.proofs.Lent.{lent-placed, changed}
 use borrow.Author.Needs.{needs}
@@ -36,12 +35,14 @@ same-length c = search needs
 
 returns : tie.Need-returns
 returns c =
-    let known = c .before .before .before .before in
+    let back = c .before .before in
+    let known = back .before .before in
     let start = known .before in
     let t = now (start .args .t) in
     let i = start .args .i in
     let k = 4288 * i + 4288 - 4288 * i in
-    changed t i (start .pre .0) (below-256 t (known .slice-known .given)) (λ s. taken (part 1 10 s) (enabled (recount (start .args .count) (rightOf s)))) (c .before .before .enable .last .0) k (omega arith) (c .before .before .enable .ensures)
+    changed t i (start .pre .0) (below-256 t (known .slice-known .given)) (λ s. taken (handleOf s) (enabled (recount (start .args .count) (rightOf s))))
+    (back .enable .last .0) k (omega arith) (back .enable .ensures)
 
 pub give-back-spec : {M : Type 1} → statement M
 give-back-spec =

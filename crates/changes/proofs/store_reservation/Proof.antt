@@ -34,12 +34,13 @@ same-length c = search needs
 
 returns : tie.Need-returns
 returns c =
-    let known = c .before .before .before .before in
+    let back = c .before .before in
+    let known = back .before .before in
     let start = known .before in
     let t = now (start .args .t) in
     let i = start .args .i in
     let k = 4288 * i + 4288 - 4288 * i in
-    changed t i (start .pre .0) (below-256 t (known .slice-known .given)) (λ _. taken (start .args .h) (reserved (start .args .n))) (c .before .before .reserve .last .0) k (omega arith) (c .before .before .reserve .ensures)
+    changed t i (start .pre .0) (below-256 t (known .slice-known .given)) (λ _. taken (start .args .h) (reserved (start .args .n))) (back .reserve .last .0) k (omega arith) (back .reserve .ensures)
 
 pub store-reservation-spec : {M : Type 1} → statement M
 store-reservation-spec =

@@ -35,14 +35,15 @@ same-length c = search needs
 
 returns : tie.Need-returns
 returns c =
-    let known = c .before .before .before .before .before in
+    let back = c .before .before in
+    let known = back .before .before .before in
     let start = known .before in
     let a = start .args in
     let t = now (a .t) in
     let i = a .i in
     let k = 4288 * i + 4288 - 4288 * i in
     changed t i (start .pre .0) (below-256 t (known .slice-known .given)) (λ _. taken (a .h) (enabled (rightFrom (a .key) (a .count) (a .hashes) (a .n) (now (a .src)) (a .at))))
-    (c .before .before .install .last .0) k (omega arith) (c .before .before .install .ensures)
+    (back .install .last .0) k (omega arith) (back .install .ensures)
 
 pub store-right-spec : {M : Type 1} → statement M
 store-right-spec =

@@ -58,7 +58,8 @@ loop-less c = search needs
 loop-again : tie.Need-loop-again Inv-loop μ-loop
 loop-again c =
     let l = c .before .before .before .before .before in
-    less-left _ (l .loop .rest .now) 64 (l .loop .inv) (c .before .before .before .before .loop-test .taken) (sym (c .before .before .zero-block2 .ensures) ∙ not-false (c .before .before .zero-block2 .result) (c .before .if2 .left))
+    less-left _ (l .loop .rest .now) 64 (l .loop .inv) (c .before .before .before .before .loop-test .taken)
+    (sym (c .before .before .zero-block2 .ensures) ∙ not-false (c .before .before .zero-block2 .result) (c .before .if2 .left))
 
 sub-zero-block-2 : tie.Need-sub-zero-block-2 Inv-loop μ-loop
 sub-zero-block-2 c = search needs

@@ -20,7 +20,11 @@ same-length : tie.Need-same-length
 same-length c = search needs
 
 returns : tie.Need-returns
-returns c = rw (c .before .before .put-word2 .ensures, c .before .before .before .before .before .before .put-word .ensures, c .before .before .before .before .before .before .before .before .before .before .put-bytes .ensures)
+returns c =
+    let put-word2 = c .before .before in
+    let put-word = put-word2 .before .before .before .before in
+    let put-bytes = put-word .before .before .before .before in
+    rw (put-word2 .put-word2 .ensures, put-word .put-word .ensures, put-bytes .put-bytes .ensures)
 
 pub put-terms-spec : {M : Type 1} → statement M
 put-terms-spec =

@@ -20,12 +20,13 @@ same-length c = search needs
 
 returns : tie.Need-returns
 returns c =
-    let known = c .before .before .before .before .before .before .before .before .before in
+    let handle = c .before .before in
+    let place = handle .before .before .before .before .before in
+    let known = place .before .before in
     let start = known .before in
     let s = now (start .args .s) in
-    let place = c .before .before .before .before .before .before .before .put-place in
-    let handle = c .before .before .put-bytes in
-    lends s (below-256 s (known .slice-known .given)) (place .last .0) (handle .last .0) (start .args .t2) (search needs) (start .pre) (place .ensures) (handle .ensures)
+    lends s (below-256 s (known .slice-known .given)) (place .put-place .last .0) (handle .put-bytes .last .0) (start .args .t2) (search needs) (start .pre)
+    (place .put-place .ensures) (handle .put-bytes .ensures)
 
 pub lend-spec : {M : Type 1} → statement M
 lend-spec =

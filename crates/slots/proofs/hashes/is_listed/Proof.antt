@@ -36,7 +36,8 @@ returns-2 : tie.Need-returns-2
 returns-2 c =
     let a = c .before .before .before .before .before .before .args in
     let l : length (a .q) ≡ 8 = search needs in
-    listed-some (now (a .s)) (take (a .n) (a .q)) _ (sym (c .before .before .before .before .place-of .ensures) ∙ ap placeNumber (c .before .before .enum-told .given .1)) (rw (length-take (a .n) (a .q)) (omega arith)) (c .has-some .ensures)
+    listed-some (now (a .s)) (take (a .n) (a .q)) _
+    (sym (c .before .before .before .before .place-of .ensures) ∙ ap placeNumber (c .before .before .enum-told .given .1)) (rw (length-take (a .n) (a .q)) (omega arith)) (c .has-some .ensures)
 
 returns-3 : tie.Need-returns-3
 returns-3 c =

@@ -46,11 +46,17 @@ awaits-well-requires c κs = search needs
 
 returns-3 : tie.Need-returns-3
 returns-3 c =
-    let a = c .before .before .before .before .before .before .before .before .before in
+    let zero-part2 = c .before in
+    let zero-part = zero-part2 .before in
+    let slot-spare = zero-part .before in
+    let payload-in = slot-spare .before .before in
+    let tested = payload-in .before in
+    let tested-2 = tested .before in
+    let a = tested-2 .before .before in
     let h = a .pre .1 in
     taken-parts (now (a .args .s)) (a .pre .0) (a .args .head .place) (a .args .head .hashes) (a .args .head .length) _ _ _ _
-    (h .place-is) (a .pre .2) (h .hashes-are) (h .length-is) (c .before .before .before .before .before .before .before .if1 .left) (c .before .before .before .before .before .before .if2 .left)
-    (c .before .before .before .slot-spare .ensures) (c .before .before .zero-part .ensures) (rw (c .before .before .before .before .before .payload-in .ensures .0) at (c .before .zero-part2 .ensures)) (c .awaits-well .ensures)
+    (h .place-is) (a .pre .2) (h .hashes-are) (h .length-is) (tested-2 .if1 .left) (tested .if2 .left)
+    (slot-spare .slot-spare .ensures) (zero-part .zero-part .ensures) (rw (payload-in .payload-in .ensures .0) at (zero-part2 .zero-part2 .ensures)) (c .awaits-well .ensures)
 
 pub well-taken-spec : {M : Type 1} → statement M
 well-taken-spec =
