@@ -28,7 +28,8 @@ part-install-end c = search needs
 install-requires : tie.Need-install-requires
 install-requires c κs =
     let start = c .before .before .before in
-    (lent-placed (now (start .args .t)) (start .args .i) (start .pre .0) 1 (4288 * start .args .i + 4288 - 4288 * start .args .i) (omega arith) (start .pre .1), start .pre .2, start .pre .3, start .pre .4)
+    let i = start .args .i in
+    (lent-placed (now (start .args .t)) i (start .pre .0) 1 (4288 * i + 4288 - 4288 * i) (omega arith) (start .pre .1), start .pre .2, start .pre .3, start .pre .4)
 
 same-length : tie.Need-same-length
 same-length c = search needs

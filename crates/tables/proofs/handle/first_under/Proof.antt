@@ -28,9 +28,10 @@ is-under-requires c κs = search needs
 
 returns : tie.Need-returns Inv-loop μ-loop
 returns c =
-    let l = c .before .before .before .before in
+    let lent = c .before .before in
+    let l = lent .before .before in
     let a = l .before .before .before .args in
-    omega (arith, under-stop (now (a .t)) (l .loop .i) (c .before .before .before .loop-test .taken) _ (c .before .before .slot-at .ensures .0) (now (a .h)) (sym (c .before .is-under .ensures) ∙ c .if1 .taken))
+    omega (arith, under-stop (now (a .t)) (l .loop .i) (lent .before .loop-test .taken) _ (lent .slot-at .ensures .0) (now (a .h)) (sym (c .before .is-under .ensures) ∙ c .if1 .taken))
 
 add-i : tie.Need-add-i Inv-loop μ-loop
 add-i c = search needs
@@ -40,9 +41,10 @@ loop-less c = search needs
 
 loop-again : tie.Need-loop-again Inv-loop μ-loop
 loop-again c =
-    let l = c .before .before .before .before in
+    let lent = c .before .before in
+    let l = lent .before .before in
     let a = l .before .before .before .args in
-    let e = under-pass (now (a .t)) (l .loop .i) (c .before .before .before .loop-test .taken) _ (c .before .before .slot-at .ensures .0) (now (a .h)) (sym (c .before .is-under .ensures) ∙ c .if1 .left) in
+    let e = under-pass (now (a .t)) (l .loop .i) (lent .before .loop-test .taken) _ (lent .slot-at .ensures .0) (now (a .h)) (sym (c .before .is-under .ensures) ∙ c .if1 .left) in
     (omega arith, omega arith, omega (arith, e))
 
 returns-2 : tie.Need-returns-2 Inv-loop μ-loop

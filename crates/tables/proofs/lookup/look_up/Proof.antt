@@ -28,8 +28,9 @@ in-use-from-requires c κs = search needs
 
 returns-2 : tie.Need-returns-2
 returns-2 c =
-    let a = c .before .before .before .before .before .before .before .args in
-    sym (answers-two (now (a .t)) (a .t2) _ (c .before .before .before .before .first-under .ensures) (c .before .before .before .if1 .left) (sym (c .before .in-use-from .ensures) ∙ c .if2 .taken))
+    let there = c .before .before .before in
+    let a = there .before .before .before .before .args in
+    sym (answers-two (now (a .t)) (a .t2) _ (there .before .first-under .ensures) (there .if1 .left) (sym (c .before .in-use-from .ensures) ∙ c .if2 .taken))
 
 slot-at-requires : tie.Need-slot-at-requires
 slot-at-requires c κs = search needs
@@ -39,14 +40,11 @@ place-of-requires c κs = search needs
 
 returns-3 : tie.Need-returns-3
 returns-3 c =
-    let slot-at = c .before in
-    let tested = slot-at .before in
-    let in-use-from = tested .before in
-    let tested-2 = in-use-from .before .before in
-    let first-under = tested-2 .before in
-    let start = first-under .before .before .before in
-    let a = start .args in
-    sym (answers-at (now (a .t)) (a .t2) _ (first-under .first-under .ensures) (tested-2 .if1 .left) _ _ (sym (in-use-from .in-use-from .ensures) ∙ tested .if2 .left) (slot-at .slot-at .ensures .0) (c .place-of .ensures))
+    let once = c .before .before in
+    let there = once .before .before .before in
+    let a = there .before .before .before .before .args in
+    let alone = sym (once .before .in-use-from .ensures) ∙ once .if2 .left in
+    sym (answers-at (now (a .t)) (a .t2) _ (there .before .first-under .ensures) (there .if1 .left) _ _ alone (c .before .slot-at .ensures .0) (c .place-of .ensures))
 
 pub look-up-spec : {M : Type 1} → statement M
 look-up-spec =

@@ -31,9 +31,10 @@ slot-place-requires c κs = search needs
 
 returns : tie.Need-returns Inv-loop μ-loop
 returns c =
-    let l = c .before .before .before .before .before in
+    let lent = c .before .before .before in
+    let l = lent .before .before in
     let t = now (l .before .before .args .t) in
-    omega (arith, empty-stop t (l .loop .i) (c .before .before .before .before .loop-test .taken) _ (c .before .before .before .slot-at .ensures .0) (sym (c .before .slot-place .ensures) ∙ c .if1 .taken))
+    omega (arith, empty-stop t (l .loop .i) (lent .before .loop-test .taken) _ (lent .slot-at .ensures .0) (sym (c .before .slot-place .ensures) ∙ c .if1 .taken))
 
 add-i : tie.Need-add-i Inv-loop μ-loop
 add-i c = search needs
@@ -43,9 +44,10 @@ loop-less c = search needs
 
 loop-again : tie.Need-loop-again Inv-loop μ-loop
 loop-again c =
-    let l = c .before .before .before .before .before in
+    let lent = c .before .before .before in
+    let l = lent .before .before in
     let t = now (l .before .before .args .t) in
-    let e = empty-pass t (l .loop .i) (c .before .before .before .before .loop-test .taken) _ (c .before .before .before .slot-at .ensures .0) (λ z. c .if1 .left (c .before .slot-place .ensures ∙ z)) in
+    let e = empty-pass t (l .loop .i) (lent .before .loop-test .taken) _ (lent .slot-at .ensures .0) (λ z. c .if1 .left (c .before .slot-place .ensures ∙ z)) in
     (omega arith, omega (arith, e))
 
 returns-2 : tie.Need-returns-2 Inv-loop μ-loop

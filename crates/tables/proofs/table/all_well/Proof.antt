@@ -29,9 +29,11 @@ well-slot-requires c κs = search needs
 
 returns : tie.Need-returns Inv-loop μ-loop
 returns c =
-    let l = c .before .before .before .before in
+    let well = c .before .well-slot in
+    let lent = c .before .before in
+    let l = lent .before .before in
     let t = now (l .before .before .args .t) in
-    sym (l .loop .inv .1 ∙ well-stop t (l .loop .i) (c .before .before .before .loop-test .taken) _ (c .before .before .slot-at .ensures .0) (sym (c .before .well-slot .ensures) ∙ not-true (c .before .well-slot .result) (c .if1 .taken)))
+    sym (l .loop .inv .1 ∙ well-stop t (l .loop .i) (lent .before .loop-test .taken) _ (lent .slot-at .ensures .0) (sym (well .ensures) ∙ not-true (well .result) (c .if1 .taken)))
 
 add-i : tie.Need-add-i Inv-loop μ-loop
 add-i c = search needs
@@ -41,9 +43,11 @@ loop-less c = search needs
 
 loop-again : tie.Need-loop-again Inv-loop μ-loop
 loop-again c =
-    let l = c .before .before .before .before in
+    let well = c .before .well-slot in
+    let lent = c .before .before in
+    let l = lent .before .before in
     let t = now (l .before .before .args .t) in
-    (omega arith, l .loop .inv .1 ∙ well-pass t (l .loop .i) (c .before .before .before .loop-test .taken) _ (c .before .before .slot-at .ensures .0) (sym (c .before .well-slot .ensures) ∙ not-false (c .before .well-slot .result) (c .if1 .left)))
+    (omega arith, l .loop .inv .1 ∙ well-pass t (l .loop .i) (lent .before .loop-test .taken) _ (lent .slot-at .ensures .0) (sym (well .ensures) ∙ not-false (well .result) (c .if1 .left)))
 
 returns-2 : tie.Need-returns-2 Inv-loop μ-loop
 returns-2 c = sym (c .before .loop .inv .1 ∙ well-end (now (c .before .before .before .args .t)) (c .before .loop .i) (c .loop-test .left))

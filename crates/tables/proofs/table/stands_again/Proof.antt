@@ -37,9 +37,11 @@ in-use-from-requires c κs = search needs
 
 returns-2 : tie.Need-returns-2
 returns-2 c =
-    let a = c .before .before .before .before .before .before .before in
+    let tested = c .before .before in
+    let lent = tested .before .before .before in
+    let a = lent .before .before in
     c .in-use-from .ensures
-    ∙ sym (again-taken (now (a .args .t)) (a .args .i) (a .pre) _ (c .before .before .before .before .before .slot-at .ensures .0) (λ e. c .before .before .if1 .left (c .before .before .before .slot-place .ensures ∙ e)))
+    ∙ sym (again-taken (now (a .args .t)) (a .args .i) (a .pre) _ (lent .slot-at .ensures .0) (λ e. tested .if1 .left (tested .before .slot-place .ensures ∙ e)))
 
 pub stands-again-spec : {M : Type 1} → statement M
 stands-again-spec =
