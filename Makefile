@@ -20,8 +20,8 @@ fuzz:
 
 # Errors planted in the second program, one at a time: the comparison must report each.
 planted:
-	@scripts/planted
+	@scripts/test-planted
 
 # Wrong definitions planted in the profile, one at a time: a worked case or a theorem must refuse each.
 definitions:
-	@scripts/definitions
+	@scripts/test-definitions

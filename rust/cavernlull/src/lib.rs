@@ -54,7 +54,7 @@
 //!
 //! The archive is x86-64 code, so on any other machine the same functions talk
 //! over a pipe to the *driver*, a program that calls the archive under the
-//! Rattle toolchain's emulator (`scripts/driver` builds it). That way is there
+//! Rattle toolchain's emulator (`scripts/build-driver` builds it). That way is there
 //! for tests and demonstrations only: it is slow, it panics where there is no
 //! driver, and it takes no more than 131,072 bytes of one thing.
 

@@ -2,7 +2,7 @@
 //! input, and says on its standard output what came of it.
 //!
 //! The archive is x86-64 code, and so is the driver (`tests/c/driver.c`, built
-//! by `scripts/driver`); it runs on any machine that has the Rattle toolchain,
+//! by `scripts/build-driver`); it runs on any machine that has the Rattle toolchain,
 //! under its emulator if need be.
 //!
 //! Commands go in and answers come out in the same order, so many commands
@@ -60,7 +60,7 @@ impl Driver {
     pub fn start() -> Driver {
         assert!(
             Path::new(RUN).exists(),
-            "there is no driver: `rt staticlib cavernlull` and then `scripts/driver` build target/driver"
+            "there is no driver: `rt staticlib cavernlull` and then `scripts/build-driver` build target/driver"
         );
         let mut child = Command::new(RUN)
             .stdin(Stdio::piped())
