@@ -1,6 +1,6 @@
 /* A coverage-guided fuzz target over the exported functions. An input is a program: how long the table is, and then what
  * is done with it: requests of every kind, frames of any bytes, and bytes of the table changed. After each call the number,
- * the reply buffer and the table must be those of the agent in C (bench/agent.c), every request written must be the frame
+ * the reply buffer and the table must be those of the agent in C (counterparts/c/agent.c), every request written must be the frame
  * that was asked for, and every reply must be read.
  *
  * All memory is lent in allocations of exactly its length, so that the address sanitiser sees an access beside it.
