@@ -16,6 +16,12 @@
 extern "C" {
 #endif
 
+/* The version of the library. */
+#define CAVERNLULL_VERSION_MAJOR 1
+#define CAVERNLULL_VERSION_MINOR 0
+#define CAVERNLULL_VERSION_PATCH 0
+#define CAVERNLULL_VERSION "1.0.0"
+
 /* What a table, a reply buffer and a frame are made of, in bytes. */
 enum {
     CAVERNLULL_SLOT_BYTES = 4288,
