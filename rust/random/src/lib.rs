@@ -17,7 +17,7 @@ impl Rng {
     ///
     /// # Panics
     ///
-    /// Where `COMPARE_SEED` is set and is no decimal number.
+    /// Where `COMPARE_SEED` is set and is not a decimal number.
     pub fn announced(test: &str) -> Self {
         let seed = setting("COMPARE_SEED").unwrap_or(DEFAULT_SEED);
         println!("{test}: COMPARE_SEED={seed}");

@@ -114,7 +114,7 @@ fn query_rek(slots: &mut [SlotBytes], fields: &Fields<'_>) -> Outcome {
 
 /// Kinds 3 and 4: status 4 for an unknown handle, then 6 where the record is
 /// not enabled, then 5 where the new handle is in use, be it by this very
-/// record. A success puts the new handle in place of the old, disables the
+/// record. A success overwrites the handle with the new one, disables the
 /// record and changes nothing else. Gives the record's slot after the change.
 fn lend<'a>(slots: &'a mut [SlotBytes], fields: &Fields<'_>) -> Result<&'a mut SlotBytes, Status> {
     let index = locate(slots, &fields.handle)?;

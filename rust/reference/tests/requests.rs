@@ -11,7 +11,7 @@ const NEW_HANDLE: [u8; 10] = [11, 12, 13, 14, 15, 16, 17, 18, 19, 20];
 const KEY: [u8; 16] = [0xC1; 16];
 const TWO_HASHES: [u8; 40] = [0xE1; 40];
 
-/// A request of each kind with the head of its frame.
+/// A request of each kind, with its whole frame.
 fn samples() -> Vec<(u8, Fields<'static>, Vec<u8>)> {
     let handle = Fields {
         handle: HANDLE,

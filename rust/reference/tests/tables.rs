@@ -87,7 +87,7 @@ fn each_rule_alone_is_103() {
         ("empty with a length", &[(EMPTY + 30, 1)]),
         ("empty with a hash", &[(EMPTY + 31, 1)]),
         ("empty with a payload", &[(EMPTY + 192, 1)]),
-        ("a right in an empty place", &[(ENABLED, 0x08)]),
+        ("a right in a slot marked empty", &[(ENABLED, 0x08)]),
         ("reserved, length 0", &[(RESERVED + 30, 0)]),
         (
             "reserved, length 4,097",
