@@ -54,8 +54,8 @@ impl OwnFields {
         }
     }
 
-    /// Fields that the writer takes for this kind; any fields for a kind outside
-    /// 1 to 9.
+    /// Fields that the writer takes for this kind, and none for a kind outside 1
+    /// to 9.
     fn of_kind(rng: &mut Rng, asker: &Asker, kind: u8) -> OwnFields {
         let mut fields = OwnFields::default();
         let names: &[u8] = match kind {
