@@ -25,7 +25,7 @@ extern "C" {
 #define CAVERNLULL_VERSION_PATCH 0
 #define CAVERNLULL_VERSION "1.0.0"
 
-/* Sizes, in bytes unless the name says otherwise (PROFILE 1.3). */
+/* Sizes in bytes, and the most slots and hashes (PROFILE 1.3). */
 enum {
     CAVERNLULL_SLOT_BYTES = 4288,
     CAVERNLULL_MOST_SLOTS = 15,
@@ -88,7 +88,7 @@ enum {
  *   102 CAVERNLULL_TABLE_LENGTH           the table is not 1 to 15 slots of 4,288 bytes
  *   103 CAVERNLULL_TABLE_NOT_WELL_FORMED  a slot is not well formed, or two records have the same handle
  *   104 CAVERNLULL_NO_FRAME               the frame has fewer than 4 bytes, or is not 4 plus its body length long
- * A request that the card refuses to carry out has none of these numbers: the call returns 0, with a reply whose status is not 0.
+ * Where the card refuses to carry out the request, the call returns 0, with a reply whose status is not 0.
  */
 uint16_t cavernlull_call(uint8_t *table, size_t table_length, const uint8_t *frame, size_t frame_length,
                          uint8_t *reply, size_t reply_length);
