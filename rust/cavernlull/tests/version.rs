@@ -38,15 +38,17 @@ fn the_readme_has_the_version() {
     assert!(read("README.md").contains(&format!("version {VERSION};")));
 }
 
-/// The newest version in the change log is that of its first heading of the
-/// second level, `## 1.0.0 - DATE` or `## [1.0.0] - DATE`.
+/// The newest version in the change log is that of its first heading with a
+/// version, `## 1.0.0 - DATE` or `## [1.0.0] - DATE`.
 #[test]
-fn the_change_log_begins_with_the_version() {
+fn the_change_log_has_the_version_as_its_newest() {
     let log = read("CHANGELOG.md");
-    let newest = log.lines().find_map(|line| line.strip_prefix("## "));
-    let word = newest.and_then(|heading| heading.split_whitespace().next());
-    let version = word.map(|word| word.trim_matches(|c| c == '[' || c == ']'));
-    assert_eq!(version, Some(VERSION));
+    let newest = log
+        .lines()
+        .filter_map(|line| line.strip_prefix("## ")?.split_whitespace().next())
+        .map(|word| word.trim_matches(|c| c == '[' || c == ']'))
+        .find(|word| word.starts_with(|c: char| c.is_ascii_digit()));
+    assert_eq!(newest, Some(VERSION));
 }
 
 /// `Cargo.lock` has the version of every crate, since all of them are of this
