@@ -17,7 +17,7 @@ pub enum Verdict {
 }
 
 impl Verdict {
-    /// Puts this verdict into a request frame, in place of the one there. A
+    /// Puts this verdict into a request frame, instead of the one there. A
     /// frame that is too short to have a verdict stays as it is.
     ///
     /// ```
