@@ -2,8 +2,8 @@
 //! input tell it, and writes the outcomes to its standard output.
 //!
 //! The archive is x86-64 code, and so is the driver (`tests/c/driver.c`, built
-//! by `scripts/build-driver`); it runs on any machine that has the Rattle toolchain,
-//! under its emulator if need be.
+//! by `scripts/build-driver`). It runs on any machine that has the Rattle
+//! toolchain, under its emulator if need be.
 //!
 //! Answers come out in the order in which commands go in, so many commands may
 //! be on their way at once. Both ends must then be served at the same time,

@@ -37,7 +37,7 @@ impl Rng {
         (self.next() % bound as u64) as usize
     }
 
-    /// True once in `n` times.
+    /// True one time in `n`, on average.
     pub fn one_in(&mut self, n: usize) -> bool {
         self.below(n) == 0
     }
