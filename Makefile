@@ -1,27 +1,27 @@
-# The commands of the README. Each needs the Rattle toolchain (`rt`) and cargo, and nothing else; `bench` and `fuzz` need a C
-# compiler beside them.
+# The commands of the README. Each needs the Rattle toolchain (`rt`), cargo and a C compiler; `fuzz` needs clang, and `planted`
+# and `definitions` need Python 3.
 .PHONY: demo test bench fuzz planted definitions
 
-# One course on a card, step by step, through the proved library.
+# Walks one course through a card, step by step, with the proved library.
 demo:
 	@scripts/demo
 
-# Layout, proofs, must-fail edits, programs and Rust tests; ends in 'N passed, M failed'.
+# Checks layout, proofs, must-fail edits, programs, C and Rust tests; ends in 'N passed, M failed'.
 test:
 	@scripts/test
 
-# Times and instructions beside C and Rust, stack and code: what docs/PERFORMANCE.md has.
+# Measures times and instructions beside C and Rust, and stack and code: the figures of docs/PERFORMANCE.md.
 bench:
 	@scripts/bench
 
-# A minute of coverage-guided fuzzing under the address sanitiser; `scripts/fuzz 3600` is an hour.
+# Fuzzes for a minute, guided by coverage, under the address sanitiser; `scripts/fuzz 3600` fuzzes for an hour.
 fuzz:
 	@scripts/fuzz
 
-# Errors planted in the second program, one at a time: the comparison must report each.
+# Plants errors in the reference, one at a time; the comparison must report each.
 planted:
-	@scripts/planted
+	@scripts/test-planted
 
-# Wrong definitions planted in the profile, one at a time: a worked case or a theorem must refuse each.
+# Plants wrong definitions in the profile, one at a time; a worked case or a theorem must refuse each.
 definitions:
-	@scripts/definitions
+	@scripts/test-definitions

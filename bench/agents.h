@@ -1,5 +1,5 @@
-/* The agents that are measured, the proved one first. The build says which others there are: OTHER_AGENTS is a list of
- * AGENT(name, function).
+/* The agents that are measured, the proved one first. The build defines OTHER_AGENTS, the list of the others, as
+ * AGENT(name, function) for each.
  */
 #ifndef AGENTS_H
 #define AGENTS_H

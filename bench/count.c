@@ -1,5 +1,6 @@
-/* Makes the calls of a scenario so often with one agent: `count AGENT SCENARIO TIMES`, each a number. It says nothing; a tool
- * that runs it counts instructions. It ends with 3 where there is no such agent, and with 4 where there is no such scenario.
+/* Makes the calls of a scenario with one agent, a number of times: `count AGENT SCENARIO TIMES`, each a number. It prints
+ * nothing; the tool that runs it counts its instructions. It exits with 3 where there is no such agent, and with 4 where there
+ * is no such scenario.
  */
 #include "agents.h"
 #include "scenarios.h"

@@ -1,8 +1,8 @@
-# Read by the scripts that count instructions.
+# Sourced by the scripts that count instructions.
 # shellcheck shell=sh
 
-# A line for each scenario, with a count for each agent: how many instructions the scenario's requests take. HOW AGENT
-# SCENARIO TIMES says how many a run of `count` takes; what it does beside the requests is the same for any number of times.
+# Prints a line for each scenario, with the number of instructions that its requests take in each agent. HOW AGENT SCENARIO
+# TIMES prints how many instructions a run of `count` takes; what a run does beside the requests does not depend on TIMES.
 instructions() { # HOW NAME...
     how=$1
     shift

@@ -1,4 +1,6 @@
-/* Reads bytes and tests none, as fast as this compiler's code can: the limit of whatever looks at every byte of a table. */
+/* Reads bytes and tests none of them, as fast as code of this compiler can: the limit for all code that looks at every byte
+ * of a table.
+ */
 #include <stddef.h>
 #include <stdint.h>
 

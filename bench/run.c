@@ -1,7 +1,9 @@
-/* Measures the proved agent beside its counterparts in C and Rust, in one run.
- * A line for each scenario: the proved agent's time, its ratios to the others' times, and its ratio to the time that reading
- * the table takes. The agents take turns within each round, and each round gives one ratio: what else the machine does in that time meets
- * them alike. Before anything is timed, every agent must give the same numbers, replies and tables.
+/* Measures the proved agent and its counterparts in C and Rust, in one run.
+ *
+ * It prints a line for each scenario: the proved agent's time, its ratios to the others' times, and its ratio to the time that
+ * reading the table takes. The agents take turns within each round, and each round gives one ratio, so that whatever else the
+ * machine does in that time slows all of them alike. Before anything is timed, every agent must give the same numbers, replies
+ * and tables.
  */
 #define _POSIX_C_SOURCE 200809L
 #include <stdio.h>
@@ -19,7 +21,7 @@ uint8_t reads(const uint8_t *s, size_t length);
 static struct scenario scenario;
 static uint8_t table[TABLE], reply[REPLY];
 
-/* The calls of the scenario, once. */
+/* Makes the calls of the scenario once. */
 static uint16_t cycle(agent_function *call) {
     uint16_t number = 0;
     for (size_t i = 0; i < scenario.count; i++)
@@ -27,7 +29,7 @@ static uint16_t cycle(agent_function *call) {
     return number;
 }
 
-/* ---- all agents do the same */
+/* ---- that all agents do the same */
 static void must_agree(void) {
     static uint8_t tables[2][TABLE], replies[2][REPLY];
     for (int k = 0; k < AGENTS; k++) {
@@ -54,9 +56,9 @@ static double now(void) {
     return (double)t.tv_sec * 1e9 + (double)t.tv_nsec;
 }
 
-static volatile unsigned kept; /* what is computed here is needed, for all that the compiler knows */
+static volatile unsigned kept; /* so that the compiler cannot leave out what is computed */
 
-/* The time of one cycle, or of one reading of the table where there is no agent. */
+/* The time of one cycle, or, without an agent, of reading the table once. */
 static double timed(agent_function *call, unsigned repeats) {
     double began = now();
     for (unsigned i = 0; i < repeats; i++) kept = call ? cycle(call) : reads(table, TABLE);

@@ -1,5 +1,5 @@
-/* The tables and requests that are measured. Their bytes are random, from a fixed seed. It needs no library but memcpy and
- * memset, so that it is built for another machine too.
+/* The tables and requests that are measured. Their bytes are random, from a fixed seed. This file needs only memcpy and memset,
+ * so that it can be built for another machine too.
  */
 #include "scenarios.h"
 
@@ -37,7 +37,7 @@ static void reserve(struct scenario *s) {
     for (unsigned i = 0; i < SLOTS; i++) put_slot(s->table + SLOT * i, RESERVED, 0, 4096);
 }
 
-/* Rights with two hashes each. */
+/* Fills slots with rights of two hashes each. */
 static void fill(struct scenario *s, unsigned slots, size_t length) {
     for (unsigned i = 0; i < slots; i++) put_slot(s->table + SLOT * i, ENABLED, 2, length);
 }
@@ -80,7 +80,7 @@ static void ask_under(struct scenario *s, unsigned kind, const uint8_t *handle, 
     ask(s, kind, body, 10 + length);
 }
 
-/* The right in the middle is lent and returned under a new handle, and then under its old one. */
+/* Lends the right in the middle under a new handle and returns it, and then the same under its old handle. */
 static void ask_to_lend(struct scenario *s) {
     uint8_t old[10], new[10];
     const uint8_t count[2] = {0, 9};
@@ -93,7 +93,7 @@ static void ask_to_lend(struct scenario *s) {
     ask_under(s, 5, old, count, 2);
 }
 
-/* A right of 4,096 bytes is set up, installed, retrieved and removed. */
+/* Sets up, installs, retrieves and removes a right of 4,096 bytes. */
 static void ask_to_install(struct scenario *s) {
     static uint8_t body[29 + 4096];
     uint8_t old[10], new[10];

@@ -12,7 +12,7 @@ struct step {
     size_t length;
 };
 
-/* A table, and requests after which it is as it was before them. `number` is what each call gives. */
+/* A table, and requests that leave it, taken together, as it was. `number` is what each call gives. */
 struct scenario {
     const char *name;
     uint8_t table[TABLE];

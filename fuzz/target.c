@@ -1,9 +1,9 @@
-/* A coverage-guided fuzz target over the exported functions. An input is a program: how long the table is, and then what
- * is done with it: requests of every kind, frames of any bytes, and bytes of the table changed. After each call the number,
- * the reply buffer and the table must be those of the agent in C (bench/agent.c), every request written must be the frame
- * that was asked for, and every reply must be read.
+/* A coverage-guided fuzz target for the exported functions. An input is a program: the length of the table, and then what is
+ * done with it: requests of every kind, frames of any bytes, and changes to bytes of the table. After each call the number,
+ * the reply buffer and the table must be those of the agent in C (counterparts/c/agent.c); every request that is written must
+ * have the kind asked for and the verdict 1; and every reply must be one that the reply reader takes.
  *
- * All memory is lent in allocations of exactly its length, so that the address sanitiser sees an access beside it.
+ * All memory is lent in allocations of exactly its length, so that the address sanitiser sees any access outside it.
  */
 #include <stdint.h>
 #include <stdlib.h>
@@ -15,7 +15,7 @@ uint16_t c_agent(uint8_t *, size_t, const uint8_t *, size_t, uint8_t *, size_t);
 
 enum { SLOT = CAVERNLULL_SLOT_BYTES, HANDLE = CAVERNLULL_HANDLE_BYTES, HASH = CAVERNLULL_HASH_BYTES };
 
-/* ---- the input, taken from the front; behind its end there are zeros */
+/* ---- the input, taken from the front; after its end come zeros */
 struct input {
     const uint8_t *at;
     size_t left;
@@ -32,7 +32,7 @@ static uint16_t take_word(struct input *in) {
     return (uint16_t)(high << 8 | take(in));
 }
 
-/* A length: a small one, one near 4,096 or 4,279, or any. */
+/* A length: a small one, one near 4,096 or 4,279, or any other. */
 static uint16_t take_length(struct input *in) {
     uint8_t how = take(in);
     if (how < 160) return how;
@@ -52,7 +52,7 @@ static void same(const void *a, const void *b, size_t length) {
     if (memcmp(a, b, length) != 0) abort();
 }
 
-/* ---- the table, and its equal lent to the agent in C */
+/* ---- the table, and an equal one lent to the agent in C */
 struct tables {
     uint8_t *ours, *theirs;
     size_t length;
@@ -86,7 +86,7 @@ static void any_frame(struct input *in, struct tables *t) {
     in->left -= length;
 }
 
-/* A request of a kind, by the writer, with handles and hashes of which there are few. */
+/* A request of a kind, written by the writer, about few handles and few hashes. */
 static void request(struct input *in, struct tables *t, unsigned kind) {
     static uint8_t payload[65535], hashes[9 * HASH], out[70000];
     static const uint8_t none[16];
@@ -111,11 +111,11 @@ static void request(struct input *in, struct tables *t, unsigned kind) {
     call(t, out, 4 + (size_t)(out[2] << 8 | out[3]), CAVERNLULL_REPLY_ROOM + (names & 1));
 }
 
-/* A byte of the table becomes another: one that a rule is about, or any. */
+/* Changes a byte of the table: one that a rule is about, or any. */
 static void change(struct input *in, struct tables *t) {
-    static const uint16_t places[] = {0, 1, 10, 11, 27, 29, 30, 31, 50, 51, 190, 191, 192, 4286, 4287};
+    static const uint16_t offsets[] = {0, 1, 10, 11, 27, 29, 30, 31, 50, 51, 190, 191, 192, 4286, 4287};
     size_t slot = take(in) % 16, where = take(in), at = slot * SLOT;
-    at += where < sizeof places / sizeof places[0] ? places[where] : take_word(in) % SLOT;
+    at += where < sizeof offsets / sizeof offsets[0] ? offsets[where] : take_word(in) % SLOT;
     uint8_t byte = take(in);
     if (at < t->length) t->ours[at] = t->theirs[at] = byte;
 }

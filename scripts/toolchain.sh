@@ -1,7 +1,7 @@
-# Read by the scripts that build x86-64 programs with the Rattle toolchain, from the root of the repository. It sets
+# Sourced, at the root of the repository, by the scripts that build programs with the Rattle toolchain. It sets
 #   archive   the archive of the exported functions, which must be there
 #   own       the toolchain's part for this machine; own/toolchain has compiler, linker and the C library of x86-64 programs
-#   emulator  what runs an x86-64 program; nothing where this machine does
+#   emulator  what runs an x86-64 program; empty where this machine runs it itself
 # and ends the script where something is missing.
 # shellcheck shell=sh disable=SC2034
 die() { echo "$(basename "$0"): $*" >&2; exit 1; }

@@ -1,5 +1,6 @@
-//! Finds the archive of the exported functions and has it linked, where this
-//! is built for x86-64. `CAVERNLULL_LIB_DIR` names another folder that has it.
+//! Finds the archive of the exported functions and has it linked, where the
+//! crate is built for x86-64. The archive is looked for in `target/staticlib`,
+//! or in the folder that `CAVERNLULL_LIB_DIR` names.
 
 use std::env;
 use std::path::{Path, PathBuf};

@@ -1,4 +1,4 @@
-/* Calls the functions of libcavernlull.a as standard input says, and writes what they gave to standard output.
+/* Calls the functions of libcavernlull.a as commands on standard input tell it, and writes the outcomes to standard output.
  *
  * A command is one byte and its arguments. Numbers have 32 bits, the low byte first. A string is its length, as a number,
  * and its bytes.
@@ -12,8 +12,8 @@
  *                                                                left them
  *   l        string out (406 bytes)                              number, string out, as cavernlull_list left it
  *
- * Every string is lent so that it ends where memory ends: one byte read or written behind it is a fault.
- * It ends with status 0 at the end of the input, and with 2 where the input is no command or too long.
+ * Every string is lent so that it ends where memory ends: an access to the byte after it is a fault.
+ * It ends with status 0 at the end of the input, and with 2 where the input is not a command or is too long.
  *
  * It is freestanding, so that the compiler and the linker are all that building it needs.
  */
@@ -31,7 +31,7 @@ static _Noreturn void leave(int status) {
     for (;;) system_call(CALL_EXIT, status, 0, 0);
 }
 
-/* What the archive asks for; -ffreestanding keeps the compiler from turning these loops into calls of themselves. */
+/* What the archive needs. With -ffreestanding the compiler does not turn these loops into calls of themselves. */
 void *memcpy(void *restrict to, const void *restrict from, size_t length) {
     uint8_t *restrict d = to;
     const uint8_t *restrict s = from;
@@ -45,7 +45,7 @@ void *memset(void *to, int byte, size_t length) {
     return to;
 }
 
-/* ---- input and output, through buffers; what is written goes out before more input is waited for */
+/* ---- input and output, through buffers; all output is sent before it waits for more input */
 enum { BUFFER = 1 << 18 };
 
 static uint8_t input[BUFFER], output[BUFFER];
@@ -106,7 +106,7 @@ static void give_number(uint32_t n) {
 /* ---- memory to lend */
 enum { ROOM = 1 << 17, PAGE = 1 << 16 };
 
-/* ROOM bytes, and behind them a page that can be neither read nor written. */
+/* ROOM bytes, and after them a page that can be neither read nor written. */
 struct area {
     _Alignas(PAGE) uint8_t bytes[ROOM];
     _Alignas(PAGE) uint8_t wall[PAGE];

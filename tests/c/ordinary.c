@@ -1,9 +1,9 @@
 /* An ordinary C program that links libcavernlull.a, as a front end or a device does: one course on its way through a card of
  * two slots. It is set up, installed, listed, lent, refused a second time and under a handle in use, returned and removed.
  *
- * Each step is held against what the header promises: the number, every byte of the reply buffer, every byte of the table,
- * what the reply reader makes of the reply, and the listing. The expected bytes are written here by hand. The program says
- * what does not hold and ends with 1, or says how many checks held and ends with 0.
+ * Each step is checked against what the header promises: the number, every byte of the reply buffer, every byte of the table,
+ * what the reply reader reads in the reply, and the listing. The expected bytes are written here by hand. The program prints
+ * the first check that fails and exits with 1, or prints how many checks held and exits with 0.
  */
 #include "cavernlull.h"
 
@@ -42,7 +42,7 @@ static int filled(const uint8_t *bytes, size_t length, uint8_t byte) {
 
 static size_t length_of(const uint8_t *one) { return 4 + (size_t)(one[2] << 8 | one[3]); }
 
-/* ---- a slot of the table that is expected, by document 01's table of bytes */
+/* ---- a slot of the expected table (PROFILE 2.2) */
 static void put_slot(int index, enum place place, const uint8_t *handle, uint16_t count, uint16_t length) {
     uint8_t *slot = expected + index * CAVERNLULL_SLOT_BYTES;
     int right = place == ENABLED || place == DISABLED;
@@ -79,7 +79,7 @@ static void write_list(uint16_t limit) {
                                    sizeof frame) == CAVERNLULL_DONE);
 }
 
-/* ---- the call: number, status, body, the rest of the buffer, the table, and what the reply reader makes of the reply */
+/* ---- the call: number, status, body, the rest of the buffer, the table, and what the reply reader reads in the reply */
 static void call(uint8_t status, const uint8_t *body, size_t body_length) {
     uint8_t sent_key[CAVERNLULL_KEY_BYTES];
     memset(reply, FILLER, sizeof reply);
@@ -204,7 +204,7 @@ static void removes(void) {
     listed("0 empty 0 0 0\n1 empty 0 0 0\n");
 }
 
-/* ---- what is refused leaves all lent memory as it was */
+/* ---- a refusal leaves all lent memory as it was */
 static void call_refused(uint16_t number, size_t table_length, size_t frame_length, size_t reply_length) {
     memset(reply, FILLER, sizeof reply);
     CHECK(cavernlull_call(table, table_length, frame, frame_length, reply, reply_length) == number);
@@ -219,7 +219,7 @@ static void refusals(void) {
     call_refused(CAVERNLULL_TABLE_LENGTH, TABLE_BYTES - 1, 16, CAVERNLULL_REPLY_ROOM);
     call_refused(CAVERNLULL_NO_FRAME, TABLE_BYTES, 3, CAVERNLULL_REPLY_ROOM);
     call_refused(CAVERNLULL_NO_FRAME, TABLE_BYTES, 15, CAVERNLULL_REPLY_ROOM);
-    table[TABLE_BYTES - 1] = expected[TABLE_BYTES - 1] = 1; /* an empty slot that is not empty */
+    table[TABLE_BYTES - 1] = expected[TABLE_BYTES - 1] = 1; /* an empty slot with a byte set */
     call_refused(CAVERNLULL_TABLE_NOT_WELL_FORMED, TABLE_BYTES, 3, CAVERNLULL_REPLY_ROOM);
     table[TABLE_BYTES - 1] = expected[TABLE_BYTES - 1] = 0;
     memset(frame, FILLER, sizeof frame);

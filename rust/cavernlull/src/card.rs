@@ -7,9 +7,9 @@ use std::fmt;
 /// A card, over a table that it owns (`Card`) or is lent
 /// (`Card<&mut [u8]>`).
 ///
-/// The table is 1 to 15 slots of [`SLOT_BYTES`] bytes. Any bytes may be taken
-/// for a table; the agent looks at them at each call, and answers no request
-/// where they are none.
+/// A table is 1 to 15 slots of [`SLOT_BYTES`] bytes. A card may be made over any
+/// bytes: the agent looks at them at each call, and answers no request where
+/// the bytes are not a well-formed table.
 ///
 /// ```
 /// use cavernlull::{CallError, Card, Error, Handle, Request, Verdict, SLOT_BYTES};
@@ -39,7 +39,7 @@ impl Card {
 }
 
 impl From<Vec<u8>> for Card {
-    /// A card over the table that these bytes are.
+    /// A card over these bytes as its table.
     fn from(table: Vec<u8>) -> Card {
         Card { table }
     }
@@ -56,14 +56,14 @@ impl<T: AsRef<[u8]> + AsMut<[u8]>> Card<T> {
     /// Has the card answer a request: writes its frame, with the front end's
     /// verdict, calls the agent and reads the reply.
     ///
-    /// A request that the card refuses to carry out is no error: it is a
+    /// A request that the card refuses to carry out is not an error: it is a
     /// [`Reply::Refused`].
     ///
     /// # Errors
     ///
     /// [`Error::Write`] where the request has too many hashes or a payload of
-    /// a wrong length; [`Error::Call`] where the table is none. Nothing is
-    /// changed then.
+    /// a wrong length; [`Error::Call`] where the bytes are not a well-formed
+    /// table. Nothing is changed then.
     pub fn call(&mut self, request: &Request, verdict: Verdict) -> Result<Reply, Error> {
         let mut frame = request.to_frame()?;
         verdict.put_into(&mut frame);
@@ -71,14 +71,15 @@ impl<T: AsRef<[u8]> + AsMut<[u8]>> Card<T> {
         Ok(Reply::read(self.call_frame(&frame, &mut reply)?)?)
     }
 
-    /// Has the card answer a request frame. The reply is written at the start
-    /// of the buffer, and that part of it is given; the bytes past it keep
-    /// what they held.
+    /// Has the card answer a request frame. Writes the reply at the start of
+    /// the buffer and gives that part of it; the bytes after it keep what they
+    /// held.
     ///
     /// # Errors
     ///
-    /// Where the buffer has fewer than [`REPLY_ROOM`] bytes, the table is none
-    /// or the frame is none. Neither table nor buffer is changed then.
+    /// Where the buffer has fewer than [`REPLY_ROOM`] bytes, or the bytes are not
+    /// a well-formed table or not a frame. Neither table nor buffer is changed
+    /// then.
     ///
     /// ```
     /// use cavernlull::{Card, REPLY_ROOM};
@@ -116,7 +117,7 @@ impl<T> Card<T> {
     }
 }
 
-/// Only how long the table is: it holds keys.
+/// Shows only how long the table is, since it holds keys.
 impl<T: AsRef<[u8]>> fmt::Debug for Card<T> {
     fn fmt(&self, f: &mut fmt::Formatter<'_>) -> fmt::Result {
         write!(f, "Card({} bytes)", self.table.as_ref().len())

@@ -1,14 +1,14 @@
 //! What the agent, the request writer and the reply reader refuse.
 //!
-//! Each refusal leaves all that was lent as it was.
+//! A refusal leaves all lent memory as it was.
 
 use std::error;
 use std::fmt;
 
 /// The agent did not answer: there is no reply, and the table is as it was.
 ///
-/// A request that the card will not carry out is no such error: it has a
-/// reply, with a [status](crate::Status) that is not
+/// A request that the card will not carry out is not such an error: it has a
+/// reply, with a [status](crate::Status) other than
 /// [`Success`](crate::Status::Success).
 #[derive(Clone, Copy, Debug, PartialEq, Eq, Hash)]
 pub enum CallError {
@@ -16,7 +16,7 @@ pub enum CallError {
     ReplyBufferShort,
     /// 102: the table is not 1 to 15 slots of 4,288 bytes.
     TableLength,
-    /// 103: a slot is not well formed, or two records have one handle.
+    /// 103: a slot is not well formed, or two records have the same handle.
     TableNotWellFormed,
     /// 104: the frame has fewer than 4 bytes, or is not 4 bytes and its body
     /// length long.
@@ -35,13 +35,13 @@ pub enum WriteError {
 
 /// 203: the bytes are not the frame of a reply.
 ///
-/// The frame is not 4 bytes and its body length long, has another version than
-/// 1 or a status over 8, a body with a status that is not 0, or a body that is
-/// not of its kind's shape with status 0.
+/// The frame is not 4 bytes and its body length long, its version is not 1, its
+/// status is over 8, it has a body though its status is not 0, or its status
+/// is 0 and its body is not of its kind's shape.
 #[derive(Clone, Copy, Debug, PartialEq, Eq, Hash)]
 pub struct ReadError;
 
-/// Any of these, for where one function does all three.
+/// Any of these errors, for functions that can meet all three.
 #[derive(Clone, Copy, Debug, PartialEq, Eq, Hash)]
 pub enum Error {
     /// The request cannot be written.
@@ -53,7 +53,7 @@ pub enum Error {
 }
 
 impl CallError {
-    /// The number that the archive gives for it, 101 to 104.
+    /// The number that the archive gives for this error, 101 to 104.
     pub const fn number(self) -> u16 {
         match self {
             CallError::ReplyBufferShort => 101,
@@ -63,7 +63,7 @@ impl CallError {
         }
     }
 
-    /// What a number of the archive's says.
+    /// What a number from the archive means.
     pub(crate) fn of(number: u16) -> Result<(), CallError> {
         Err(match number {
             0 => return Ok(()),
@@ -77,7 +77,7 @@ impl CallError {
 }
 
 impl WriteError {
-    /// The number that the archive gives for it, 201 or 202.
+    /// The number that the archive gives for this error, 201 or 202.
     pub const fn number(self) -> u16 {
         match self {
             WriteError::BufferShort => 201,
@@ -85,7 +85,7 @@ impl WriteError {
         }
     }
 
-    /// What a number of the archive's says.
+    /// What a number from the archive means.
     pub(crate) fn of(number: u16) -> Result<(), WriteError> {
         Err(match number {
             0 => return Ok(()),
@@ -97,12 +97,12 @@ impl WriteError {
 }
 
 impl ReadError {
-    /// The number that the archive gives for it, 203.
+    /// The number that the archive gives for this error, 203.
     pub const fn number(self) -> u16 {
         203
     }
 
-    /// What a number of the archive's says.
+    /// What a number from the archive means.
     pub(crate) fn of(number: u16) -> Result<(), ReadError> {
         match number {
             0 => Ok(()),
@@ -112,13 +112,13 @@ impl ReadError {
     }
 }
 
-/// The archive is proved to give no other number than those above.
+/// The archive is proved to give no number but those above.
 fn unknown(number: u16) -> ! {
     panic!("the archive gave {number}, which it never does: is it another version's?")
 }
 
 impl Error {
-    /// The number that the archive gives for it.
+    /// The number that the archive gives for this error.
     pub const fn number(self) -> u16 {
         match self {
             Error::Write(error) => error.number(),

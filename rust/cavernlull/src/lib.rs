@@ -49,14 +49,14 @@
 //!
 //! On x86-64 the archive is linked. `rt staticlib cavernlull` writes it to
 //! `target/staticlib`, where the build finds it; `CAVERNLULL_LIB_DIR` names
-//! another folder. Nothing but memory is needed then: no call allocates in the
-//! archive, blocks or has state of its own.
+//! another folder. The archive needs nothing but the memory that it is lent: it
+//! does not allocate or block, and has no state of its own.
 //!
 //! The archive is x86-64 code, so on any other machine the same functions talk
 //! over a pipe to the *driver*, a program that calls the archive under the
-//! Rattle toolchain's emulator (`scripts/driver` builds it). That way is there
-//! for tests and demonstrations only: it is slow, it panics where there is no
-//! driver, and it takes no more than 131,072 bytes of one thing.
+//! Rattle toolchain's emulator (`scripts/build-driver` builds it). This is for
+//! tests and demonstrations only: it is slow, it panics where there is no
+//! driver, and it takes no table, frame or buffer of more than 131,072 bytes.
 
 #![deny(missing_docs)]
 #![deny(unsafe_code)]
@@ -90,16 +90,16 @@ pub use verdict::Verdict;
 /// The bytes of a slot.
 pub const SLOT_BYTES: usize = 4288;
 
-/// The most slots that a table has; the least is one.
+/// The most slots that a table has; the fewest is one.
 pub const MOST_SLOTS: usize = 15;
 
-/// The bytes of the longest reply, and of the least reply buffer.
+/// The bytes of the longest reply, and of the shortest reply buffer.
 pub const REPLY_ROOM: usize = 4279;
 
 /// The bytes of the longest request.
 pub const REQUEST_ROOM: usize = 4289;
 
-/// The bytes of the longest payload; the least is one.
+/// The bytes of the longest payload; the shortest has one.
 pub const MOST_PAYLOAD: usize = 4096;
 
 /// The bytes of a handle.

@@ -7,7 +7,7 @@ use std::str;
 
 /// The listing of a table, as the program `cardlist` prints it: a header, then
 /// a line for each slot with its index, its place (`empty`, `reserved`,
-/// `enabled` or `disabled`), hash count, count and payload length. Of a table
+/// `enabled` or `disabled`), hash count, count and payload length. For a table
 /// that the agent would refuse it is one line, `refused 102` or `refused 103`.
 ///
 /// ```
@@ -29,7 +29,7 @@ pub struct Listing {
 }
 
 impl Listing {
-    /// The listing of any bytes at all.
+    /// The listing of any bytes, a table or not.
     pub fn of(table: &[u8]) -> Listing {
         let mut bytes = [0; LISTING_ROOM];
         let length = archive::list(table, &mut bytes);

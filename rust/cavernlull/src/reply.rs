@@ -4,8 +4,7 @@ use crate::archive;
 use crate::{AssetHash, Handle, Key, Kind, ReadError, Right, Status};
 use crate::{HANDLE_BYTES, HASH_BYTES, KEY_BYTES};
 
-/// What a card answered: the success of a kind with what it gives, or a
-/// refusal.
+/// What a card answered: a success, with what it gives, or a refusal.
 #[derive(Clone, Debug, PartialEq, Eq)]
 pub enum Reply {
     /// A request of this kind was carried out, and there is nothing to give:
@@ -19,10 +18,10 @@ pub enum Reply {
     Handles {
         /// The handles, in the order of their slots.
         handles: Vec<Handle>,
-        /// Whether some were left off, since the limit was reached.
+        /// Whether some were left off because of the limit.
         more: bool,
     },
-    /// Kind 9: of a right for use.
+    /// Kind 9: the count and the payload of a right for use.
     Information {
         /// The count.
         count: u16,
@@ -31,7 +30,7 @@ pub enum Reply {
     },
     /// The request was not carried out, and the table is as it was.
     Refused {
-        /// The five bits of the kind as they were asked, 0 to 31.
+        /// The five kind bits of the request, 0 to 31.
         kind: u8,
         /// Why; not [`Status::Success`].
         status: Status,
@@ -43,7 +42,7 @@ impl Reply {
     ///
     /// # Errors
     ///
-    /// Where the bytes are no such frame.
+    /// Where the bytes are not such a frame.
     ///
     /// ```
     /// use cavernlull::{ReadError, Reply, Status};

@@ -35,7 +35,7 @@ pub enum Request {
         new_handle: Handle,
     },
     /// Kind 5: take the right that is lent under this handle back, for use.
-    /// Of a right that is for use it changes nothing.
+    /// If the right is for use already, nothing changes.
     RightsEnablement {
         /// The handle that the right is lent under.
         handle: Handle,
@@ -56,11 +56,11 @@ pub enum Request {
     HandleListQuery {
         /// The most bytes of handles to be listed; 0 for no limit.
         limit: u16,
-        /// Up to 8 hashes: only rights that have one of them. Without any,
-        /// all.
+        /// Up to 8 hashes: only rights that have one of them are listed. With
+        /// no hashes, all rights are.
         hashes: Vec<AssetHash>,
     },
-    /// Kind 9: give count and payload of a right for use.
+    /// Kind 9: give the count and the payload of a right for use.
     RightsInformationQuery {
         /// The handle of the right.
         handle: Handle,
@@ -107,11 +107,11 @@ impl Request {
     }
 
     /// Writes the frame of the request at the start of a buffer, and gives
-    /// that part of it. The bytes past it keep what they held.
+    /// that part of it. The bytes after it keep what they held.
     ///
     /// # Errors
     ///
-    /// [`WriteError::Fields`] as [`to_frame`](Request::to_frame), and
+    /// [`WriteError::Fields`], as for [`to_frame`](Request::to_frame), and
     /// [`WriteError::BufferShort`]. The buffer is not changed then.
     pub fn write<'out>(&self, out: &'out mut [u8]) -> Result<&'out [u8], WriteError> {
         let number = archive::write_request(self.kind().number(), &self.fields(), out);

@@ -7,7 +7,7 @@ use std::fmt;
 #[derive(Clone, Copy, Default, PartialEq, Eq, PartialOrd, Ord, Hash)]
 pub struct Handle(pub [u8; HANDLE_BYTES]);
 
-/// The hash of an asset that a right is for: 20 bytes (SHA-1).
+/// The hash of an asset that a right is for: the 20 bytes of a SHA-1.
 #[derive(Clone, Copy, Default, PartialEq, Eq, PartialOrd, Ord, Hash)]
 pub struct AssetHash(pub [u8; HASH_BYTES]);
 
@@ -24,7 +24,7 @@ pub struct Right {
     pub count: u16,
     /// Up to 8 hashes of the assets that the right is for.
     pub hashes: Vec<AssetHash>,
-    /// The payload, 1 to 4,096 bytes that nobody here looks into.
+    /// The payload: 1 to 4,096 bytes, which neither card nor library interprets.
     pub payload: Vec<u8>,
 }
 
@@ -54,7 +54,7 @@ impl fmt::Debug for AssetHash {
     }
 }
 
-/// Only that it is a key: a log is no place for one.
+/// Shows only that it is a key: no key should get into a log.
 impl fmt::Debug for Key {
     fn fmt(&self, f: &mut fmt::Formatter<'_>) -> fmt::Result {
         f.write_str("Key(..)")

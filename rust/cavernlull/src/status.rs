@@ -17,15 +17,15 @@ pub enum Status {
     RequestNotSupported = 3,
     /// No record is under the request's handle.
     HandleNotFound = 4,
-    /// The handle to be given out is in use already.
+    /// The handle of the setup, or the new handle, is in use already.
     DuplicateHandle = 5,
     /// The record is not in the place that the request is for: it is lent, or
     /// not yet installed, or installed already.
     UnexpectedRequest = 6,
     /// No slot is empty, or the length is more than there is room for.
     NotEnoughSpace = 7,
-    /// The request's handle is in more than one slot. No card sends it: such
-    /// a table is refused ([`TableNotWellFormed`]).
+    /// The request's handle is in more than one slot. No card sends this
+    /// status: such a table is refused ([`TableNotWellFormed`]).
     ///
     /// [`TableNotWellFormed`]: crate::CallError::TableNotWellFormed
     TwoRecords = 8,

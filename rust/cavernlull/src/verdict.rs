@@ -1,12 +1,12 @@
 //! The front end's verdict on a frame.
 
-/// The highest bit of a request's second byte: "1 means the MAC held".
+/// The highest bit of a request's second byte, set where the MAC held.
 const BIT: u8 = 0x80;
 
-/// What the card's front end, which checks MACs, found of a request.
+/// What the card's front end, which checks MACs, found out about a request.
 ///
-/// The agent takes it from one bit of the frame. Kinds 8 and 9 ignore it; to
-/// the others a MAC that failed is
+/// The agent reads it from one bit of the frame. Kinds 8 and 9 ignore it; the
+/// others answer a MAC that failed with
 /// [`FieldIntegrityVerificationFailed`](crate::Status::FieldIntegrityVerificationFailed).
 #[derive(Clone, Copy, Debug, PartialEq, Eq, Hash)]
 pub enum Verdict {
@@ -17,8 +17,8 @@ pub enum Verdict {
 }
 
 impl Verdict {
-    /// Puts this verdict into a request frame, whatever it says there. A
-    /// frame that is too short to have one stays as it is.
+    /// Puts this verdict into a request frame, instead of the one there. A
+    /// frame that is too short to have a verdict stays as it is.
     ///
     /// ```
     /// use cavernlull::Verdict;

@@ -1,6 +1,6 @@
 //! One course on its way through a card: set up, installed, listed, lent,
 //! refused a second time and under a handle in use, returned, removed. After
-//! each step the whole table is held against bytes written by hand.
+//! each step the whole table is compared with bytes written by hand.
 
 use cavernlull::{AssetHash, Card, Handle, Key, Kind, Reply, Request, Right, Status, Verdict};
 use cavernlull::{HASH_BYTES, SLOT_BYTES};
@@ -22,7 +22,7 @@ fn right() -> Right {
     }
 }
 
-/// The bytes of a slot, by document 01's table.
+/// The bytes of a slot (PROFILE 2.2).
 fn slot(place: u8, handle: Handle, right: &Right, length: usize) -> Vec<u8> {
     let mut slot = vec![0; SLOT_BYTES];
     slot[0] = place << 6 | (right.hashes.len() as u8) << 2;
@@ -55,7 +55,7 @@ struct Desk<T> {
 }
 
 impl<T: AsRef<[u8]> + AsMut<[u8]>> Desk<T> {
-    /// Asks, and sees that the table is then just these slots.
+    /// Makes a request, and asserts that the table is then just these slots.
     fn ask(&mut self, request: Request, slots: &[Vec<u8>]) -> Reply {
         let reply = self.card.call(&request, Verdict::Held).unwrap();
         assert!(self.card.table() == slots.concat(), "after {request:?}");
@@ -63,7 +63,7 @@ impl<T: AsRef<[u8]> + AsMut<[u8]>> Desk<T> {
         reply
     }
 
-    /// Asks for what is refused, and sees that nothing is changed.
+    /// Makes a request that is refused, and asserts that nothing changes.
     fn refused(&mut self, request: Request, status: Status) {
         let before = self.card.table().to_vec();
         let kind = request.kind().number();
@@ -124,8 +124,8 @@ impl<T: AsRef<[u8]> + AsMut<[u8]>> Desk<T> {
         self.refused(setup(BORROWER, 1), Status::NotEnoughSpace);
     }
 
-    /// The course is lent once, and under no handle that is in use, "its own
-    /// included".
+    /// The course is lent once, and not under a handle that is in use, not even
+    /// its own.
     fn lends(&mut self) {
         self.refused(lend(COURSE, OTHER), Status::DuplicateHandle);
         self.refused(lend(COURSE, COURSE), Status::DuplicateHandle);
@@ -192,7 +192,7 @@ fn a_course_goes_through_a_card_over_a_lent_table() {
     assert!(memory == [&around[..], &[0; 2 * SLOT_BYTES], &around].concat());
 }
 
-/// A limit in bytes cuts the list, and hashes choose from it.
+/// A limit in bytes cuts the list short, and hashes select from it.
 #[test]
 fn lists_are_cut_and_chosen() {
     let mut card = Card::blank(3);

@@ -1,5 +1,5 @@
 //! What the agent, the writer and the reader refuse, and that each refusal
-//! leaves all that was lent as it was.
+//! leaves all lent memory as it was.
 
 use cavernlull::{AssetHash, CallError, Card, Error, Handle, Listing, ReadError, Reply};
 use cavernlull::{
@@ -26,7 +26,8 @@ fn installation(hashes: usize, payload: usize) -> Request {
     }
 }
 
-/// Sees that the call is refused so, with table and buffer as they were.
+/// Asserts that the call is refused with this error, and that table and buffer
+/// stay as they were.
 fn assert_refused(table: &[u8], frame: &[u8], room: usize, error: CallError) {
     let mut card = Card::from(table.to_vec());
     let mut buffer = vec![0xA5; room];
@@ -52,7 +53,7 @@ fn the_agent_refuses_in_order() {
     assert_refused(&blank, &[], REPLY_ROOM, CallError::NoFrame);
 }
 
-/// The listing says of a table what the agent says of it.
+/// The listing refuses a table with the number that the agent refuses it with.
 #[test]
 fn a_refused_table_is_listed_as_refused() {
     let mut table = vec![0; SLOT_BYTES];
@@ -92,7 +93,7 @@ fn the_reply_is_at_the_start_of_the_buffer() {
     assert!(buffer[4..].iter().all(|&byte| byte == 0xA5));
 }
 
-/// Cases 1 to 4 of document 01, and 13, by their bytes.
+/// Cases 1 to 4 and 13 of the card profile (PROFILE 9), by their bytes.
 #[test]
 fn statuses_are_replies_and_no_errors() {
     let mut card = Card::blank(1);

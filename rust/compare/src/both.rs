@@ -1,15 +1,15 @@
-//! One call after another, by the archive and by the reference.
+//! One call after another, made by the archive and by the reference.
 
 use driver::{Call, Driver};
 
-/// A table lent to the archive, and its equal lent to the reference.
+/// A table lent to the archive, and an equal one lent to the reference.
 pub struct Both {
     driver: Driver,
     table: Vec<u8>,
 }
 
 impl Both {
-    /// With this table at first.
+    /// Starts with this table.
     pub fn on(table: Vec<u8>) -> Both {
         let mut driver = Driver::start();
         let sent = driver.commands.table(&table);

@@ -1,8 +1,7 @@
-//! Calls made at random, and calls checked.
+//! Calls made at random, and their check.
 //!
-//! Each call is handed to the driver and to the reference, and what the
-//! reference made of it is held against what the driver answers; so is the
-//! listing of the table after each call.
+//! Each call is handed to the driver and to the reference, and the outcomes are
+//! compared; so are the listings of the table after each call.
 
 use crate::frames::Asker;
 use crate::outcome::{Counts, Outcome};
@@ -15,7 +14,7 @@ use reference::{read_request, ReadRequest, MAX_SLOTS};
 use std::collections::BTreeMap;
 use std::io::Result;
 
-/// The calls of one sequence, from a blank table on.
+/// How many calls there are in one sequence, which starts from a blank table.
 const SEQUENCE: usize = 160;
 
 /// Where a call stands in the history of a table.
@@ -25,11 +24,11 @@ enum History {
     Begins,
     /// The next call on the same table.
     GoesOn,
-    /// A call on another table, which is no part of any history.
+    /// A call on another table, which belongs to no history.
     Apart,
 }
 
-/// What the reference made of a call.
+/// What is expected of a call: its outcome by the reference.
 struct Expected {
     history: History,
     frame: Vec<u8>,
@@ -37,7 +36,7 @@ struct Expected {
     listed: Listed,
 }
 
-/// What there was among some calls, and how often.
+/// What occurred among some calls, and how often.
 #[derive(Default)]
 pub struct Seen {
     /// The outcomes of the calls.
@@ -46,8 +45,8 @@ pub struct Seen {
     pub listings: BTreeMap<String, u64>,
 }
 
-/// Makes at least so many calls, on tables of 1 to 15 slots in turn, and
-/// checks each. Gives what there was.
+/// Makes at least this many calls, on tables of 1 to 15 slots in turn, and
+/// checks each. Gives what occurred.
 ///
 /// # Panics
 ///
@@ -69,8 +68,8 @@ pub fn compare(mut rng: Rng, calls: u64) -> Seen {
     checker.seen
 }
 
-/// Makes a sequence of calls from a blank table on, among them some on a copy
-/// of the table which is damaged. Gives how many.
+/// Makes a sequence of calls that starts from a blank table, some of them on a
+/// damaged copy of the table. Gives how many calls it made.
 fn sequence(giver: &mut Giver<Expected>, rng: &mut Rng, slots: usize) -> Result<u64> {
     let asker = Asker::new(slots);
     let mut table = blank(slots);
@@ -94,8 +93,8 @@ fn sequence(giver: &mut Giver<Expected>, rng: &mut Rng, slots: usize) -> Result<
     Ok(made)
 }
 
-/// Makes one call on the table lent to the driver and on its equal, and lists
-/// the table that it left.
+/// Makes one call on the table lent to the driver and on the reference's, and
+/// lists the table that it left.
 fn call(
     giver: &mut Giver<Expected>,
     rng: &mut Rng,
@@ -155,7 +154,7 @@ impl Checker {
         self.checked += 1;
     }
 
-    /// Holds a table against its history, told by requests and statuses.
+    /// Compares a table with its history, told by requests and statuses.
     fn follow(&mut self, call: &Expected, outcome: Outcome, table: &[u8]) -> Same {
         match call.history {
             History::Apart => return Ok(()),

@@ -8,11 +8,10 @@ use reference::{read_reply, write_request, Fields, Handle, Key, Reply, Status};
 use reference::{HANDLE_BYTES, HASH_BYTES};
 use std::collections::BTreeMap;
 
-/// How often there was which number, with which kind asked for.
+/// How often each number occurred, with each kind asked for.
 pub type WriterCounts = BTreeMap<(u16, u8), u64>;
 
-/// How often there was which number, with which kind and status; 203 has
-/// neither.
+/// How often each number occurred, with each kind and status; 203 has neither.
 pub type ReaderCounts = BTreeMap<(u16, u8, u8), u64>;
 
 /// The fields of a request, with hashes and payload of its own.
@@ -55,7 +54,8 @@ impl OwnFields {
         }
     }
 
-    /// Fields that the writer takes for this kind, and for other kinds any.
+    /// Fields that the writer takes for this kind, and none for a kind outside 1
+    /// to 9.
     fn of_kind(rng: &mut Rng, asker: &Asker, kind: u8) -> OwnFields {
         let mut fields = OwnFields::default();
         let names: &[u8] = match kind {
@@ -111,7 +111,7 @@ impl OwnFields {
     }
 }
 
-/// Has so many requests written, and checks each.
+/// Has this many requests written, and checks each.
 ///
 /// # Panics
 ///
@@ -161,7 +161,7 @@ fn out_buffer(rng: &mut Rng, kind: u8, fields: &Fields<'_>) -> Vec<u8> {
     rng.bytes(room)
 }
 
-/// Has so many replies read, and checks each.
+/// Has this many replies read, and checks each.
 ///
 /// # Panics
 ///
@@ -196,7 +196,7 @@ pub fn compare_readers(mut rng: Rng, calls: u64) -> ReaderCounts {
     counts
 }
 
-/// What the reference makes of a reply, as the archive has it.
+/// What the reference reads in a reply, in the form that the archive gives.
 fn expected(frame: &[u8], key: Key, numbers: Numbers) -> Read {
     match read_reply(frame) {
         Err(number) => Read {
@@ -212,8 +212,9 @@ fn expected(frame: &[u8], key: Key, numbers: Numbers) -> Read {
     }
 }
 
-/// The numbers of a reply: kind, status, count, hashes and where they are,
-/// where the payload is and its length, more, handles and where they are.
+/// The ten numbers of a reply: kind, status, count, number and offset of the
+/// hashes, offset and length of the payload, more, number and offset of the
+/// handles.
 fn numbers_of(reply: &Reply<'_>, frame: &[u8]) -> Numbers {
     let fields = &reply.fields;
     let (hashes_at, payload_at, handles_at) = match (reply.status, reply.kind) {
@@ -256,7 +257,7 @@ impl Asker {
         reply
     }
 
-    /// The body of a success, some a little too long or too short.
+    /// The body of a success, now and then a little too long or too short.
     fn given(&self, rng: &mut Rng, kind: u8) -> Vec<u8> {
         let length = match rng.below(8) {
             0 => rng.pick(&[0, 4096, 4097]),

@@ -6,10 +6,10 @@ use reference::{Handle, HASH_BYTES};
 /// A hash.
 type Hash = [u8; HASH_BYTES];
 
-/// The highest bit of the second byte: "1 means the MAC held".
+/// The verdict: the highest bit of the second byte, set where the MAC held.
 const VERDICT: u8 = 0x80;
 
-/// The kinds that are "not 1 to 9".
+/// The kinds outside 1 to 9.
 pub const KINDS_OUTSIDE: [u8; 23] = [
     0, 10, 11, 12, 13, 14, 15, 16, 17, 18, 19, 20, 21, 22, 23, 24, 25, 26, 27, 28, 29, 30, 31,
 ];
@@ -22,7 +22,7 @@ pub struct Asker {
 }
 
 impl Asker {
-    /// For a table of so many slots: two more handles than slots.
+    /// For a table of this many slots, with two handles more than slots.
     pub fn new(slots: usize) -> Self {
         Asker {
             handles: (0..slots + 2).map(near).collect(),
@@ -35,7 +35,7 @@ impl Asker {
         rng.pick(&self.handles)
     }
 
-    /// Up to 8 hashes, one after another; the same may come twice.
+    /// Up to 8 hashes, one after another; two may be equal.
     pub fn hashes(&self, rng: &mut Rng) -> Vec<u8> {
         let count = rng.pick(&[0, 0, 0, 1, 1, 1, 2, 3, 7, 8]);
         (0..count).flat_map(|_| rng.pick(&self.hashes)).collect()
@@ -86,8 +86,8 @@ impl Asker {
         .concat()
     }
 
-    /// A payload; one in four is such that others have the same bytes, and
-    /// are other rights all the same.
+    /// A payload. One in four has bytes that other payloads have too: rights
+    /// with equal payloads are different rights all the same.
     fn payload(&self, rng: &mut Rng, length: usize) -> Vec<u8> {
         match rng.below(4) {
             0 => vec![0x5A; length],
@@ -128,7 +128,7 @@ impl Asker {
         }
     }
 
-    /// A frame that is at the edge of what its kind may be.
+    /// A frame at the edge of what its kind allows.
     fn edge(&self, rng: &mut Rng) -> Vec<u8> {
         let handle = self.handle(rng);
         let kind = 1 + rng.below(9) as u8;
@@ -148,7 +148,7 @@ impl Asker {
     }
 }
 
-/// Version and kind.
+/// Changes version or kind.
 fn spoil_first(rng: &mut Rng, frame: &mut [u8]) {
     frame[0] = match rng.below(4) {
         0 => rng.byte(),
@@ -158,7 +158,7 @@ fn spoil_first(rng: &mut Rng, frame: &mut [u8]) {
     };
 }
 
-/// Verdict and zero bits.
+/// Changes the verdict or a zero bit.
 fn spoil_second(rng: &mut Rng, frame: &mut [u8]) {
     frame[1] = match rng.below(4) {
         0 => frame[1] ^ rng.bit(7),
@@ -167,7 +167,7 @@ fn spoil_second(rng: &mut Rng, frame: &mut [u8]) {
     };
 }
 
-/// The length in the frame, or the frame's own.
+/// Changes the length in the frame, or the frame's own length.
 fn spoil_length(rng: &mut Rng, frame: &mut Vec<u8>) {
     let more = 1 + rng.below(30);
     match rng.below(5) {
@@ -185,7 +185,7 @@ fn spoil_length(rng: &mut Rng, frame: &mut Vec<u8>) {
     }
 }
 
-/// The hash count of kind 2 or of kind 8, if the frame has such a byte.
+/// Changes the hash count of kind 2 or of kind 8, if the frame has its byte.
 fn spoil_hash_count(rng: &mut Rng, frame: &mut [u8]) {
     let (at, counts) = match frame[0] & 31 {
         2 => (32, [0x10, 0x90, 0xF0, 0x81, 0x04]),
@@ -196,7 +196,7 @@ fn spoil_hash_count(rng: &mut Rng, frame: &mut [u8]) {
     }
 }
 
-/// A length in the frame that fits the frame.
+/// Makes the length in the frame fit the frame.
 fn say_length(frame: &mut [u8]) {
     let length = (frame.len() - 4) as u16;
     frame[2..4].copy_from_slice(&length.to_be_bytes());
@@ -214,7 +214,8 @@ pub fn frame(kind: u8, second: u8, body: &[u8]) -> Vec<u8> {
     [&head, body].concat()
 }
 
-/// Bytes that differ from the others in one byte or two, and for 0 zeros.
+/// Bytes for each number, which differ in one byte or two from those of any
+/// other; for 0 they are zeros.
 fn near<const N: usize>(index: usize) -> [u8; N] {
     let mut bytes = [0x11; N];
     bytes[index * 7 % N] ^= index as u8;

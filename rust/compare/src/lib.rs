@@ -1,9 +1,8 @@
 //! The comparison of the proved archive with `reference`, byte for byte.
 //!
 //! The archive is called by a small C program, the [`driver`]. The tests make
-//! calls at random, give each to the archive and to the reference, and hold
-//! number, reply buffer and table of the one against those of the other, and
-//! the table's listing too.
+//! calls at random, give each to the archive and to the reference, and compare
+//! number, reply buffer, table and the table's listing.
 //!
 //! | | |
 //! |---|---|
@@ -13,7 +12,7 @@
 //! | [`calls`] | many calls, made at random and checked |
 //! | [`device`] | requests written and replies read, at random |
 //! | [`both`] | one call after another, on a table chosen by a test |
-//! | [`outcome`] | which outcomes there were, and which there must be |
+//! | [`outcome`] | which outcomes occurred, and which must occur |
 //!
 //! `COMPARE_SEED` sets another seed and `COMPARE_CALLS` another number of
 //! calls, both in decimal.

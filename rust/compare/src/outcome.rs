@@ -3,12 +3,12 @@
 use std::collections::BTreeMap;
 use std::fmt;
 
-/// What came of a call, in short.
+/// The outcome of a call, in short.
 #[derive(Clone, Copy, Debug, PartialEq, Eq, PartialOrd, Ord)]
 pub enum Outcome {
-    /// This number, and no reply.
+    /// The call gave this number, and no reply.
     Refused(u16),
-    /// A reply of this kind, 0 to 31, with this status.
+    /// The call gave a reply of this kind, 0 to 31, with this status.
     Replied {
         /// The kind in the reply.
         kind: u8,
@@ -40,11 +40,12 @@ impl fmt::Display for Outcome {
     }
 }
 
-/// How often there was which outcome.
+/// How often each outcome occurred.
 pub type Counts = BTreeMap<Outcome, u64>;
 
-/// Every outcome that can occur: the statuses that document 01 gives to each
-/// kind. Status 8 is not among them, since 103 comes first.
+/// Every outcome that can occur: each number, and each kind with the statuses
+/// that it can have (PROFILE 4.2, 5). Status 8 is not among them, since 103
+/// comes first.
 pub fn that_can_occur() -> Vec<Outcome> {
     let statuses = |kind: u8| -> &'static [u8] {
         match kind {
@@ -64,7 +65,7 @@ pub fn that_can_occur() -> Vec<Outcome> {
     (101..=104).map(Outcome::Refused).chain(replied).collect()
 }
 
-/// Sees that what occurred is what can occur, and prints how often.
+/// Asserts that what occurred is what can occur, and prints how often it did.
 ///
 /// # Panics
 ///

@@ -9,7 +9,7 @@ use std::panic::resume_unwind;
 use std::sync::mpsc::{sync_channel, SyncSender};
 use std::thread;
 
-/// How many answers may be waited for.
+/// How many answers may be outstanding.
 const ON_THE_WAY: usize = 64;
 
 /// Where commands are given.

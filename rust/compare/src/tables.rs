@@ -11,8 +11,8 @@ pub fn blank(slots: usize) -> Vec<u8> {
     vec![0; slots * SLOT_BYTES]
 }
 
-/// A whole table with some damage. Not every damage is one that makes it ill
-/// formed: a bit of a payload may be any.
+/// A whole table with some damage. Some damage leaves it well formed: a
+/// changed bit of a payload, for one.
 pub fn damaged(rng: &mut Rng, table: &[u8]) -> Vec<u8> {
     let mut table = table.to_vec();
     match rng.below(4) {
@@ -23,8 +23,8 @@ pub fn damaged(rng: &mut Rng, table: &[u8]) -> Vec<u8> {
     table
 }
 
-/// Another length, filled with zeros. The longest table there is and a table
-/// of one slot more are among them.
+/// Gives the table another length, and fills it up with zeros. The longest
+/// table that there can be is among them, and a table of one slot more.
 fn wrong_length(rng: &mut Rng, table: &mut Vec<u8>) {
     let length = match rng.below(8) {
         0 => 0,
@@ -39,7 +39,7 @@ fn wrong_length(rng: &mut Rng, table: &mut Vec<u8>) {
     table.resize(length, 0);
 }
 
-/// A slot, or its handle alone, copied over that of another.
+/// Copies a slot, or its handle alone, over that of another.
 fn two_alike(rng: &mut Rng, table: &mut [u8]) {
     let slots = table.len() / SLOT_BYTES;
     let from = rng.below(slots) * SLOT_BYTES;
@@ -50,7 +50,7 @@ fn two_alike(rng: &mut Rng, table: &mut [u8]) {
     }
 }
 
-/// One byte of a slot: any, or one that a rule is about.
+/// Changes one byte of a slot: any byte, or one that a rule is about.
 fn one_byte(rng: &mut Rng, table: &mut [u8]) {
     let slot = rng.below(table.len() / SLOT_BYTES) * SLOT_BYTES;
     let at = slot
@@ -70,8 +70,8 @@ fn one_byte(rng: &mut Rng, table: &mut [u8]) {
     };
 }
 
-/// A reply buffer, now and then too short. No two neighbours are equal in it,
-/// so that a byte which was written or moved shows.
+/// A reply buffer, now and then too short. No two neighbouring bytes are equal,
+/// so that a byte that was written or moved shows.
 pub fn reply_buffer(rng: &mut Rng) -> Vec<u8> {
     let room = match rng.below(20) {
         0 => rng.pick(&[0, 1, 4, REPLY_ROOM - 1, REPLY_ROOM - 1]),
@@ -81,7 +81,7 @@ pub fn reply_buffer(rng: &mut Rng) -> Vec<u8> {
     patterned(rng, room)
 }
 
-/// A buffer for a listing, no two neighbours of which are equal.
+/// A buffer for a listing, in which no two neighbouring bytes are equal.
 pub fn listing_buffer(rng: &mut Rng) -> Vec<u8> {
     patterned(rng, LISTING_ROOM)
 }

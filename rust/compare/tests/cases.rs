@@ -1,4 +1,5 @@
-//! Cases 13 to 15 of document 01, and the fullest card there is.
+//! Cases 13 to 15 of the card profile (PROFILE 9.2), and the fullest card that
+//! there can be.
 
 use compare::both::Both;
 use compare::frames::{frame, KINDS_OUTSIDE};
@@ -21,19 +22,20 @@ fn reply(both: &mut Both, frame: &[u8]) -> Vec<u8> {
     given.reply
 }
 
-/// Makes a call that is refused, with nothing changed.
+/// Makes a call, and asserts that it is refused with nothing changed.
 fn assert_refused(table: &[u8], frame: &[u8], number: u16) {
     let given = Both::on(table.to_vec()).call(frame, &BUFFER);
     assert_eq!(given.number, number);
     assert!(given.reply == BUFFER && given.table == table);
 }
 
-/// A setup of 5 bytes under ten bytes 01: the frame of case 1.
+/// The frame of case 1: a setup of 5 bytes, under a handle of ten bytes 01.
 fn setup() -> Vec<u8> {
     frame(1, 0x80, &[&[1; 10][..], &[0, 5]].concat())
 }
 
-/// "13. Kind 10, any body: `2A 03 00 00`." So with every kind outside 1 to 9.
+/// Case 13: kind 10 with any body gets the reply `2A 03 00 00`. So does every
+/// other kind outside 1 to 9, with its own kind bits.
 #[test]
 fn case_13_kinds_outside_1_to_9_are_not_supported() {
     let mut rng = Rng::announced("case 13");
@@ -51,7 +53,8 @@ fn case_13_kinds_outside_1_to_9_are_not_supported() {
     }
 }
 
-/// "14. Empty frame, or 3 bytes: 104."
+/// Case 14: a frame of 0 to 3 bytes is refused with 104. So is one that is cut
+/// short.
 #[test]
 fn case_14_what_is_no_frame_is_104() {
     for length in 0..4 {
@@ -61,7 +64,7 @@ fn case_14_what_is_no_frame_is_104() {
     assert_refused(&blank(2), &[&setup()[..], &[0]].concat(), 104);
 }
 
-/// "15. Tables of 0, 4,287 and 68,608 bytes: 102."
+/// Case 15: tables of 0, 4,287 and 68,608 bytes are refused with 102.
 #[test]
 fn case_15_tables_of_other_lengths_are_102() {
     for length in [0, 4287, 68_608] {

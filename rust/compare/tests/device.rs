@@ -1,4 +1,4 @@
-//! The device end at random: the archive writes the requests and reads the
+//! The device's end at random: the archive writes the requests and reads the
 //! replies that the reference writes and reads, and refuses what it refuses.
 
 use compare::device::{compare_readers, compare_writers};

@@ -1,5 +1,5 @@
-//! The crate `cavernlull` at random: what its types say of requests, replies,
-//! tables and listings is what the reference says.
+//! The crate `cavernlull` at random: its requests, replies, tables and listings
+//! are those of the reference.
 
 use cavernlull::{AssetHash, Card, Handle, Key, Kind, Reply, Request, Right, Status, Verdict};
 use compare::frames::Asker;
@@ -10,8 +10,8 @@ use std::collections::BTreeSet;
 /// The requests made on each of the tables, which have 1 to 15 slots.
 const REQUESTS: usize = 200;
 
-/// The kinds with their statuses that a typed request can have: those of any
-/// frame, but for the 2 of a field that no type can say.
+/// The kinds and statuses that a typed request can have: those of any frame,
+/// without the 2 for a field that the types cannot express.
 const CAN_OCCUR: usize = 5 + 5 + 5 + 5 + 4 + 4 + 4 + 1 + 3;
 
 fn hashes(bytes: &[u8]) -> Vec<AssetHash> {

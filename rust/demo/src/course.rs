@@ -10,11 +10,12 @@ pub struct Step {
     pub request: Request,
     /// The status of the reply.
     pub expected: Status,
-    /// Why the card answers so.
+    /// Why the card gives this answer.
     pub why: &'static str,
 }
 
-/// The handle of the course, of the course while it is lent, and of another.
+/// The handles of the course, of the course while it is lent, and of another
+/// course.
 const COURSE: Handle = Handle(*b"BRAZING-01");
 const LENT: Handle = Handle(*b"LENT-TO-42");
 const OTHER: Handle = Handle(*b"WELDING-07");

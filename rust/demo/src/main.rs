@@ -46,7 +46,7 @@ fn shown(screen: &Screen, card: &mut Card, step: &Step) -> Result<String, Error>
     Ok(text)
 }
 
-/// A handle as the desk knows it: those of this walk are letters.
+/// A handle as the desk knows it: in this walk, as letters.
 fn name(handle: &Handle) -> String {
     String::from_utf8_lossy(&handle.0).into_owned()
 }

@@ -3,7 +3,7 @@
 
 use cavernlull::Listing;
 
-/// How many bytes of a frame stand in a line.
+/// How many bytes of a frame are shown on one line.
 const LINE: usize = 20;
 
 /// Where text goes.
@@ -12,7 +12,7 @@ pub struct Screen {
 }
 
 impl Screen {
-    /// A screen that shows colours, or not.
+    /// A screen, with colours or without.
     pub fn new(coloured: bool) -> Screen {
         Screen { coloured }
     }
@@ -24,7 +24,7 @@ impl Screen {
         }
     }
 
-    /// The title of the whole.
+    /// The title of the walk.
     pub fn title(&self, text: &str) -> String {
         format!("{}\n", self.paint("1", text))
     }

@@ -1,13 +1,13 @@
-//! The driver: a program that calls the archive as it is told on its standard
-//! input, and says on its standard output what came of it.
+//! The driver: a program that calls the archive as commands on its standard
+//! input tell it, and writes the outcomes to its standard output.
 //!
 //! The archive is x86-64 code, and so is the driver (`tests/c/driver.c`, built
-//! by `scripts/driver`); it runs on any machine that has the Rattle toolchain,
-//! under its emulator if need be.
+//! by `scripts/build-driver`). It runs on any machine that has the Rattle
+//! toolchain, under its emulator if need be.
 //!
-//! Commands go in and answers come out in the same order, so many commands
-//! may be on their way at once. Both ends have then to be served at the same
-//! time, since a pipe that is full stops the driver.
+//! Answers come out in the order in which commands go in, so many commands may
+//! be on their way at once. Both ends must then be served at the same time,
+//! since a full pipe stops the driver.
 
 #![forbid(unsafe_code)]
 #![warn(missing_docs)]
@@ -19,7 +19,7 @@ use std::process::{Child, ChildStdin, ChildStdout, Command, Stdio};
 /// What starts the driver on this machine.
 const RUN: &str = concat!(env!("CARGO_MANIFEST_DIR"), "/../../target/driver/run");
 
-/// Room for some tables on their way.
+/// Room for a few tables on their way.
 const PIPE_BYTES: usize = 1 << 18;
 
 /// The fields of a request, as `cavernlull_write_request` is lent them.
@@ -43,7 +43,7 @@ pub struct Fields<'a> {
     pub payload: &'a [u8],
 }
 
-/// A driver that runs.
+/// A running driver.
 pub struct Driver {
     /// Where commands go in.
     pub commands: Commands,
@@ -60,7 +60,7 @@ impl Driver {
     pub fn start() -> Driver {
         assert!(
             Path::new(RUN).exists(),
-            "there is no driver: `rt staticlib cavernlull` and then `scripts/driver` build target/driver"
+            "there is no driver: `rt staticlib cavernlull` and then `scripts/build-driver` build target/driver"
         );
         let mut child = Command::new(RUN)
             .stdin(Stdio::piped())
@@ -379,11 +379,11 @@ impl Answers {
         }
     }
 
-    /// Sees the driver, whose input has been dropped, end as it should.
+    /// Waits for the driver, whose input has been dropped, to end.
     ///
     /// # Panics
     ///
-    /// Where it says more, or ends with another status than 0.
+    /// Where it writes more, or ends with a status other than 0.
     pub fn end(mut self) {
         let mut rest = Vec::new();
         let read = self.stdout.read_to_end(&mut rest);

@@ -19,7 +19,7 @@ const LOADER: &str = "/lib64/ld-linux-x86-64.so.2";
 ///
 /// # Panics
 ///
-/// Where the program was not built, or this machine cannot run it: a test of
+/// Where the program was not built, or this machine cannot run it: the test of
 /// a program that is not there must fail.
 pub fn command(name: &str) -> Command {
     let program = root().join("target/bin").join(name);
@@ -44,7 +44,7 @@ fn root() -> PathBuf {
     Path::new(env!("CARGO_MANIFEST_DIR")).join("../..")
 }
 
-/// The command that `rt` would run the program by.
+/// The command with which `rt` would run the program.
 fn by_the_toolchain(program: &Path) -> Command {
     let tools = tools(&toolchain());
     let emulator = tools.join("bin/qemu-x86_64");

@@ -1,5 +1,5 @@
 //! The program `cardlist`, run on many tables and compared with the
-//! reference's listing. Each comparison is of all bytes that it prints.
+//! reference's listing. Each comparison covers every byte that it prints.
 
 mod tables;
 
@@ -13,7 +13,7 @@ use random::Rng;
 use reference::{listing, Place, SLOT_BYTES};
 use tables::{any_table, by_requests, empty, reserved, right, LARGEST};
 
-/// What the program prints where `feed` writes its input.
+/// What the program prints for the input that `feed` writes.
 fn printed_of(feed: impl FnOnce(&mut ChildStdin) + Send + 'static) -> String {
     let mut child = command("cardlist")
         .stdin(Stdio::piped())
@@ -48,7 +48,7 @@ fn printed(bytes: &[u8]) -> String {
 }
 
 /// What the program prints where its input comes in these pieces, with a
-/// pause behind each.
+/// pause after each.
 fn printed_in_pieces(pieces: &[&[u8]]) -> String {
     let pieces: Vec<Vec<u8>> = pieces.iter().map(|piece| piece.to_vec()).collect();
     printed_of(move |input| {
@@ -63,7 +63,7 @@ fn expected(bytes: &[u8]) -> String {
     String::from_utf8(listing(bytes)).expect("a listing is text")
 }
 
-/// The listing is the reference's, and begins as the test expects.
+/// Asserts that the listing is the reference's and begins with `start`.
 fn lists(bytes: &[u8], start: &str, what: &str) {
     let printed = printed(bytes);
     assert_eq!(printed, expected(bytes), "{what}");
@@ -73,7 +73,7 @@ fn lists(bytes: &[u8], start: &str, what: &str) {
 const HEADER: &str = "slot place hashes count length\n";
 
 #[test]
-fn the_example_of_document_01_is_exact() {
+fn the_profiles_example_is_exact() {
     assert_eq!(
         printed(&reserved(1, 5)),
         "slot place hashes count length\n0 reserved 0 0 5\n"
@@ -100,7 +100,7 @@ fn other_sizes_are_102() {
 }
 
 #[test]
-fn a_byte_behind_the_largest_table_is_102() {
+fn a_byte_after_the_largest_table_is_102() {
     let mut table = by_requests();
     lists(&table, HEADER, "15 slots");
     table.push(0);
@@ -155,7 +155,8 @@ fn the_longest_listing_is_whole() {
     assert_eq!(printed.len(), 31 + 10 * 24 + 5 * 25);
 }
 
-/// What is wrong, the byte of a slot that says so, and what it becomes.
+/// What is wrong, the offset in the slot of the byte that makes it so, and what
+/// that byte becomes.
 type Damage = (&'static str, usize, u8);
 
 const RESERVED_WITH: &[Damage] = &[
@@ -168,14 +169,14 @@ const RESERVED_WITH: &[Damage] = &[
     ("a payload byte", 4287, 1),
 ];
 
-/// For two hashes and a payload of five bytes.
+/// Damage to a right of two hashes and five payload bytes.
 const ENABLED_WITH: &[Damage] = &[
     ("a spare bit", 0, 0x8A),
     ("9 hashes", 0, 0xA4),
     ("length over 4,096", 29, 0x10),
-    ("a byte behind its hashes", 71, 1),
+    ("a byte after its hashes", 71, 1),
     ("byte 191", 191, 1),
-    ("a byte behind its payload", 197, 1),
+    ("a byte after its payload", 197, 1),
 ];
 
 const EMPTY_WITH: &[Damage] = &[
@@ -212,7 +213,7 @@ fn two_slots_with_one_handle_are_103() {
         let what = format!("slots {first} and {second}");
         lists(&slots.concat(), "refused 103\n", &what);
     }
-    // an empty slot has no handle, and one of ten zeros is a handle
+    // an empty slot has no handle, and ten zeros are a handle
     lists(&[reserved(0, 5), empty()].concat(), HEADER, "zeros");
 }
 

@@ -17,7 +17,7 @@ impl Rng {
     ///
     /// # Panics
     ///
-    /// Where `COMPARE_SEED` is set and is no decimal number.
+    /// Where `COMPARE_SEED` is set and is not a decimal number.
     pub fn announced(test: &str) -> Self {
         let seed = setting("COMPARE_SEED").unwrap_or(DEFAULT_SEED);
         println!("{test}: COMPARE_SEED={seed}");
@@ -37,7 +37,7 @@ impl Rng {
         (self.next() % bound as u64) as usize
     }
 
-    /// True once in `n` times.
+    /// True one time in `n`, on average.
     pub fn one_in(&mut self, n: usize) -> bool {
         self.below(n) == 0
     }

@@ -9,23 +9,23 @@ use crate::table::{self, Found};
 use crate::{read_request, Fields, Handle, Kind, ReadRequest, Request, Status};
 use crate::{HANDLE_BYTES, MAX_PAYLOAD};
 
-/// The bytes that a reply buffer must have: the longest reply is a right of 8
-/// hashes and 4,096 payload bytes that is retrieved.
+/// The bytes that a reply buffer must have: as many as the longest reply, which
+/// retrieves a right of 8 hashes and 4,096 payload bytes.
 pub const REPLY_ROOM: usize = 4279;
 
 /// The body of a success, or the status of a refusal.
 type Outcome = Result<Vec<u8>, Status>;
 
-/// The success of a kind whose body is "none".
+/// The body of a success that has nothing to give.
 const NO_BODY: Vec<u8> = Vec::new();
 
 /// One call of the card agent.
 ///
-/// 101, 102, 103 and 104 are "Given back with no byte of table or reply
-/// buffer changed, tested in this order". "Otherwise the call gives 0 and
-/// writes a reply; reply-buffer bytes past it keep what they held." The reply
-/// is at the start of the buffer. "Every status but 0 leaves the table
-/// unchanged."
+/// It tests for 101, 102, 103 and 104 in this order (PROFILE 4.1), and a call
+/// that gives one of them changes neither table nor reply buffer. Any other
+/// call gives 0 and writes a reply at the start of the buffer, whose remaining
+/// bytes keep what they held. A reply with a status other than 0 leaves the
+/// table as it was (PROFILE 4.2).
 pub fn call(table: &mut [u8], frame: &[u8], reply: &mut [u8]) -> u16 {
     if reply.len() < REPLY_ROOM {
         return REPLY_BUFFER_SHORT;
@@ -40,7 +40,7 @@ pub fn call(table: &mut [u8], frame: &[u8], reply: &mut [u8]) -> u16 {
     DONE
 }
 
-/// The reply to a frame, with the slots changed as it says; `None` for 104.
+/// Carries out a frame and gives its reply; `None` for 104.
 ///
 /// The reply is of version 1 and has the kind bits of the frame, whatever
 /// version and kind these are.
@@ -68,8 +68,9 @@ fn carry_out(slots: &mut [SlotBytes], request: &Request<'_>) -> Outcome {
     }
 }
 
-/// Kind 1: "length 0, 2; handle in any non-empty slot, 5; length over 4,096
-/// or no empty slot, 7. The lowest empty slot becomes reserved."
+/// Kind 1 (PROFILE 5.1): status 2 for a length of 0, then 5 for a handle in
+/// use, then 7 for a length over 4,096 or where no slot is empty. A success
+/// reserves the lowest empty slot.
 fn set_up(slots: &mut [SlotBytes], fields: &Fields<'_>) -> Outcome {
     if fields.length == 0 {
         return Err(Status::ParameterFailed);
@@ -83,9 +84,10 @@ fn set_up(slots: &mut [SlotBytes], fields: &Fields<'_>) -> Outcome {
     Ok(NO_BODY)
 }
 
-/// Kind 2, after its field tests: "handle absent, 4; record not reserved, 6;
-/// payload longer than reserved, 7. The record becomes enabled with the
-/// fields given; its length is the payload's."
+/// Kind 2 (PROFILE 5.2), after its field tests: status 4 for an unknown
+/// handle, then 6 where the record is not reserved, then 7 for a payload longer
+/// than the room reserved. A success enables the record with the request's
+/// fields, and with the payload's length as its length.
 fn install(slots: &mut [SlotBytes], fields: &Fields<'_>) -> Outcome {
     let slot = record(slots, &fields.handle)?;
     expect(slot::place(slot) == Place::Reserved)?;
@@ -96,7 +98,7 @@ fn install(slots: &mut [SlotBytes], fields: &Fields<'_>) -> Outcome {
     Ok(NO_BODY)
 }
 
-/// Kind 3: the right is lent, and the body is its content.
+/// Kind 3 (PROFILE 5.3): lends the right; the body is its content.
 fn retrieve(slots: &mut [SlotBytes], fields: &Fields<'_>) -> Outcome {
     let slot = lend(slots, fields)?;
     let mut body = Vec::new();
@@ -104,15 +106,16 @@ fn retrieve(slots: &mut [SlotBytes], fields: &Fields<'_>) -> Outcome {
     Ok(body)
 }
 
-/// Kind 4: the right is lent, and the body is its key.
+/// Kind 4 (PROFILE 5.4): lends the right; the body is its key.
 fn query_rek(slots: &mut [SlotBytes], fields: &Fields<'_>) -> Outcome {
     let slot = lend(slots, fields)?;
     Ok(slot::key(slot).to_vec())
 }
 
-/// Kinds 3 and 4: "absent, 4; not enabled, 6; new handle in any non-empty
-/// slot, its own included, 5. The handle is overwritten, the record disabled,
-/// nothing else." Gives back the slot of the record, so changed.
+/// Kinds 3 and 4: status 4 for an unknown handle, then 6 where the record is
+/// not enabled, then 5 where the new handle is in use, be it by this very
+/// record. A success overwrites the handle with the new one, disables the
+/// record and changes nothing else. Gives the record's slot after the change.
 fn lend<'a>(slots: &'a mut [SlotBytes], fields: &Fields<'_>) -> Result<&'a mut SlotBytes, Status> {
     let index = locate(slots, &fields.handle)?;
     expect(slot::place(&slots[index]) == Place::Enabled)?;
@@ -121,8 +124,9 @@ fn lend<'a>(slots: &'a mut [SlotBytes], fields: &Fields<'_>) -> Result<&'a mut S
     Ok(&mut slots[index])
 }
 
-/// Kind 5: "absent, 4; reserved, 6. A disabled record is enabled with the
-/// request's count. An enabled one stays as it is, with status 0".
+/// Kind 5 (PROFILE 5.5): status 4 for an unknown handle, then 6 where the
+/// record is reserved. A success enables a disabled record with the request's
+/// count, and leaves an enabled one as it is.
 fn enable(slots: &mut [SlotBytes], fields: &Fields<'_>) -> Outcome {
     let slot = record(slots, &fields.handle)?;
     expect(slot::place(slot) != Place::Reserved)?;
@@ -132,7 +136,8 @@ fn enable(slots: &mut [SlotBytes], fields: &Fields<'_>) -> Outcome {
     Ok(NO_BODY)
 }
 
-/// Kind 6: "absent, 4; reserved, 6. All bytes of the slot become 0."
+/// Kind 6 (PROFILE 5.6): status 4 for an unknown handle, then 6 where the
+/// record is reserved. A success clears every byte of the slot.
 fn remove_right(slots: &mut [SlotBytes], fields: &Fields<'_>) -> Outcome {
     let slot = record(slots, &fields.handle)?;
     expect(slot::place(slot) != Place::Reserved)?;
@@ -140,7 +145,8 @@ fn remove_right(slots: &mut [SlotBytes], fields: &Fields<'_>) -> Outcome {
     Ok(NO_BODY)
 }
 
-/// Kind 7: "absent, 4; not reserved, 6. All bytes become 0."
+/// Kind 7 (PROFILE 5.7): status 4 for an unknown handle, then 6 where the
+/// record is not reserved. A success clears every byte of the slot.
 fn remove_handle(slots: &mut [SlotBytes], fields: &Fields<'_>) -> Outcome {
     let slot = record(slots, &fields.handle)?;
     expect(slot::place(slot) == Place::Reserved)?;
@@ -148,9 +154,9 @@ fn remove_handle(slots: &mut [SlotBytes], fields: &Fields<'_>) -> Outcome {
     Ok(NO_BODY)
 }
 
-/// Kind 8, after its field tests: "Limit 0 is none", that is, no limit;
-/// "otherwise the first whole handles that fit in limit bytes. More is 1
-/// exactly if a handle was left off."
+/// Kind 8 (PROFILE 5.8), after its field tests: lists the first handles that
+/// fit, each as a whole, in as many bytes as the limit says, or all of them
+/// where the limit is 0. The bit "more" says whether any was left off.
 fn list_handles(slots: &[SlotBytes], fields: &Fields<'_>) -> Vec<u8> {
     let wanted = wanted_handles(slots, fields.hashes);
     let fitting = match fields.limit {
@@ -160,8 +166,9 @@ fn list_handles(slots: &[SlotBytes], fields: &Fields<'_>) -> Vec<u8> {
     handles_body(fitting < wanted.len(), &wanted[..fitting])
 }
 
-/// "in slot order and each once, the handles of enabled records that have
-/// some hash of the request; with hash count 0, of all enabled records".
+/// The handles that kind 8 asks for, in the order of their slots: those of the
+/// enabled records that have one of the request's hashes or, where the request
+/// has none, of all enabled records.
 fn wanted_handles(slots: &[SlotBytes], hashes: &[u8]) -> Vec<Handle> {
     slots
         .iter()
@@ -171,7 +178,8 @@ fn wanted_handles(slots: &[SlotBytes], hashes: &[u8]) -> Vec<Handle> {
         .collect()
 }
 
-/// Kind 9: "absent, 4; not enabled, 6."
+/// Kind 9 (PROFILE 5.9): status 4 for an unknown handle, then 6 where the
+/// record is not enabled. The body is its count and its payload.
 fn inform(slots: &mut [SlotBytes], fields: &Fields<'_>) -> Outcome {
     let slot = record(slots, &fields.handle)?;
     expect(slot::place(slot) == Place::Enabled)?;
@@ -184,9 +192,9 @@ fn record<'a>(slots: &'a mut [SlotBytes], handle: &Handle) -> Result<&'a mut Slo
     Ok(&mut slots[index])
 }
 
-/// The index of the record under the request's handle, or 8 and 4: "Two
-/// Records: the request's handle is in more than one slot; tested just before
-/// 4".
+/// The index of the record under the request's handle. A handle in more than
+/// one slot is status 8, which is tested before 4, a handle in none
+/// (PROFILE 4.2).
 fn locate(slots: &[SlotBytes], handle: &Handle) -> Result<usize, Status> {
     match table::find(slots, handle) {
         Found::InSeveral => Err(Status::TwoRecords),
@@ -195,7 +203,7 @@ fn locate(slots: &[SlotBytes], handle: &Handle) -> Result<usize, Status> {
     }
 }
 
-/// 6 unless the record is where the request expects it.
+/// Status 6 unless the record is in a place that the request is for.
 fn expect(as_expected: bool) -> Result<(), Status> {
     if !as_expected {
         return Err(Status::UnexpectedRequest);
@@ -203,7 +211,7 @@ fn expect(as_expected: bool) -> Result<(), Status> {
     Ok(())
 }
 
-/// 5 for a "handle in any non-empty slot".
+/// Status 5 where some record is under this handle.
 fn refuse_duplicate(slots: &[SlotBytes], handle: &Handle) -> Result<(), Status> {
     if table::holds(slots, handle) {
         return Err(Status::DuplicateHandle);
@@ -216,8 +224,8 @@ mod tests {
     use super::*;
     use crate::SLOT_BYTES;
 
-    /// [`call`] refuses such a table with 103, so only a test in here can see
-    /// status 8.
+    /// [`call`] refuses a table with two such records with 103, so only a test
+    /// in this module can see status 8.
     #[test]
     fn a_handle_in_two_slots_is_8_and_one_in_none_is_4() {
         let mut slots = [[0; SLOT_BYTES]; 3];

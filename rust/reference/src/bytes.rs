@@ -7,8 +7,7 @@ pub(crate) fn array_at<const N: usize>(bytes: &[u8], offset: usize) -> [u8; N] {
     array
 }
 
-/// The 16-bit number of `bytes` that begins at `offset`, "most significant
-/// bit first".
+/// The 16-bit number of `bytes` that begins at `offset`, high byte first.
 pub(crate) fn u16_at(bytes: &[u8], offset: usize) -> u16 {
     u16::from_be_bytes(array_at(bytes, offset))
 }

@@ -1,8 +1,9 @@
 //! The content of a right, in the one form in which it travels.
 //!
-//! The body of kind 2 is a handle and then this; the body of a successful
-//! reply of kind 3 is just this: "key, count, hash count 4 bits, 4 zero bits,
-//! hashes, payload".
+//! The body of a request of kind 2 is a handle and then the content
+//! (PROFILE 3.3); the body of a successful reply of kind 3 is the content alone
+//! (PROFILE 3.4). The content is the key, the count, a byte with the hash count
+//! in its four high bits and zeros in the others, the hashes, and the payload.
 
 use crate::bytes::{array_at, u16_at};
 use crate::{Key, HASH_BYTES, MAX_HASHES, MAX_PAYLOAD};
@@ -23,9 +24,10 @@ pub(crate) struct Content<'a> {
 }
 
 impl<'a> Content<'a> {
-    /// Reads a content that fills all of `bytes`; `None` for "hash count over
-    /// 8, the 4 bits not zero, or payload [...] not 1 to 4,096 bytes". Hashes
-    /// that overrun `bytes` leave no payload, so they are refused as well.
+    /// Reads a content that fills all of `bytes`; `None` where the hash count
+    /// is over 8, one of the four zero bits is set, or the payload is not 1 to
+    /// 4,096 bytes. Hashes that overrun `bytes` leave no payload, so they are
+    /// refused as well.
     pub fn read(bytes: &'a [u8]) -> Option<Self> {
         let (head, rest) = bytes.split_at_checked(HEAD_BYTES)?;
         let hash_count = read_hash_count(head[HASH_COUNT_AT])?;
@@ -48,8 +50,8 @@ impl<'a> Content<'a> {
     }
 }
 
-/// "hash count 4 bits, 4 zero bits"; `None` if a zero bit is set or the count
-/// is over 8.
+/// The hash count in its byte; `None` where a zero bit is set or the count is
+/// over 8.
 fn read_hash_count(byte: u8) -> Option<usize> {
     let count = usize::from(byte >> 4);
     (count <= MAX_HASHES && byte & 0x0F == 0).then_some(count)
@@ -60,7 +62,7 @@ pub(crate) fn hash_count(hashes: &[u8]) -> u8 {
     u8::try_from(hashes.len() / HASH_BYTES).expect("there are at most 8 hashes")
 }
 
-/// "payload 1 to 4,096".
+/// Whether a payload may have this length, 1 to 4,096.
 pub(crate) fn payload_length_is_right(length: usize) -> bool {
     (1..=MAX_PAYLOAD).contains(&length)
 }

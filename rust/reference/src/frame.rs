@@ -1,7 +1,8 @@
 //! The head that requests and replies have in common.
 //!
-//! Both begin with "version 3 bits (1), kind 5 bits", then have a byte of
-//! their own, then "body length 16 bits; body".
+//! Both begin with a byte of three version bits and five kind bits, then have
+//! a byte of their own, then the body's length in 16 bits, then the body
+//! (PROFILE 3.1, 3.2).
 
 use crate::bytes::u16_at;
 
@@ -25,8 +26,8 @@ pub(crate) struct Frame<'a> {
 }
 
 impl<'a> Frame<'a> {
-    /// Takes `bytes` apart; `None` for a "frame under 4 bytes, or its length
-    /// not 4 plus its body length".
+    /// Takes `bytes` apart; `None` where there are fewer than 4, or not as many
+    /// as 4 and the body's length.
     pub fn split(bytes: &'a [u8]) -> Option<Self> {
         let (head, body) = bytes.split_at_checked(HEAD_BYTES)?;
         (body.len() == usize::from(u16_at(head, 2))).then_some(Frame {

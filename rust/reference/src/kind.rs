@@ -1,26 +1,26 @@
 //! The nine kinds of request.
 
-/// The kind of a request, with the number that document 01 gives it.
+/// The kind of a request, with its number (PROFILE 5).
 #[derive(Clone, Copy, Debug, PartialEq, Eq, PartialOrd, Ord)]
 #[repr(u8)]
 pub enum Kind {
-    /// "1 Installation Setup": reserves a slot.
+    /// Kind 1 reserves a slot.
     InstallationSetup = 1,
-    /// "2 Rights Installation": fills a reserved slot.
+    /// Kind 2 fills a reserved slot.
     RightsInstallation = 2,
-    /// "3 Rights Retrieval": lends a right and gives its whole content.
+    /// Kind 3 lends a right and gives its whole content.
     RightsRetrieval = 3,
-    /// "4 REK Query": lends a right and gives its key.
+    /// Kind 4 lends a right and gives its key.
     RekQuery = 4,
-    /// "5 Rights Enablement": takes a lent right back.
+    /// Kind 5 takes a lent right back.
     RightsEnablement = 5,
-    /// "6 Rights Removal": clears a slot that holds a right.
+    /// Kind 6 clears a slot that holds a right.
     RightsRemoval = 6,
-    /// "7 Handle Removal": clears a reserved slot.
+    /// Kind 7 clears a reserved slot.
     HandleRemoval = 7,
-    /// "8 Handle List Query": lists the handles of enabled records.
+    /// Kind 8 lists the handles of enabled records.
     HandleListQuery = 8,
-    /// "9 Rights Information Query": gives count and payload.
+    /// Kind 9 gives the count and the payload of a right.
     RightsInformationQuery = 9,
 }
 
@@ -38,7 +38,7 @@ impl Kind {
         Kind::RightsInformationQuery,
     ];
 
-    /// The kind of this number, or `None` for "kind not 1 to 9".
+    /// The kind of this number; `None` unless it is 1 to 9.
     pub fn from_number(number: u8) -> Option<Kind> {
         Kind::ALL.into_iter().find(|kind| kind.number() == number)
     }
@@ -48,8 +48,8 @@ impl Kind {
         self as u8
     }
 
-    /// Whether a request of this kind may have a body of `length` bytes: the
-    /// lengths in brackets in the table of frames.
+    /// Whether a request of this kind may have a body of `length` bytes
+    /// (PROFILE 3.3).
     pub(crate) fn takes_body_of(self, length: usize) -> bool {
         match self {
             Kind::InstallationSetup | Kind::RightsEnablement => length == 12,
@@ -62,7 +62,8 @@ impl Kind {
         }
     }
 
-    /// "verdict 0 for kinds 1 to 7, 1 (8 and 9 ignore it)".
+    /// Whether a verdict of 0 is status 1 for this kind: kinds 8 and 9 ignore
+    /// the verdict (PROFILE 4.3).
     pub(crate) fn heeds_verdict(self) -> bool {
         self <= Kind::HandleRemoval
     }

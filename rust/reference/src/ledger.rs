@@ -1,29 +1,29 @@
-//! The history of rights, "told without a table, by status 0 only".
+//! The history of rights, told without a table (PROFILE 8).
 //!
 //! A [`Ledger`] is a fold over pairs of a request and the status of its
-//! reply. It "looks at no slot and repeats none of the agent's tests": what
-//! it knows of the card it knows from what was asked and granted. [`agrees`]
-//! then holds a table against it.
+//! reply. It looks at no slot and repeats none of the agent's tests: what it
+//! knows of the card it knows from what was asked and granted. [`agrees`]
+//! compares a table with it.
 
 use crate::slot::{self, Place, SlotBytes};
 use crate::{table, Fields, Handle, Key, Kind, Request, Status};
 
-/// Where a right stands.
+/// Whether a right is for use, lent or gone.
 #[derive(Clone, Copy, Debug, PartialEq, Eq)]
 pub enum Standing {
     /// The right is for use under its handle.
     ForUse,
     /// The right is lent under its handle.
     Lent,
-    /// The right was removed. Handle and content are the last it had.
+    /// The right was removed; its handle and content are the last it had.
     Gone,
 }
 
-/// A right, with the fields sent at its installation and what later requests
-/// made of handle and count.
+/// A right, with the fields of its installation; handle and count as later
+/// requests changed them.
 #[derive(Clone, Debug, PartialEq, Eq)]
 pub struct Right {
-    /// Where the right stands.
+    /// Whether the right is for use, lent or gone.
     pub standing: Standing,
     /// The handle that the right is for use or lent under.
     pub handle: Handle,
@@ -42,7 +42,7 @@ pub struct Right {
 pub struct Setup {
     /// The handle that the setup is under.
     pub handle: Handle,
-    /// "the length asked".
+    /// The length that the setup asked for.
     pub length: u16,
 }
 
@@ -69,8 +69,8 @@ impl Ledger {
     }
 
     /// All rights ever installed; the index of a right is its number. Every
-    /// installation makes a right of its own: "two installations with equal
-    /// bytes are two rights".
+    /// installation makes a right of its own, so two installations with equal
+    /// bytes make two rights.
     pub fn rights(&self) -> &[Right] {
         &self.rights
     }
@@ -83,9 +83,9 @@ impl Ledger {
     /// Tells one more request with the status number of its reply. Any status
     /// but 0 does nothing, and so do kinds 8 and 9.
     ///
-    /// Where no setup or right is under the handle, there is none to change.
-    /// Where there are several, which a right agent never leads to, the one
-    /// that was there first is meant.
+    /// Where no setup or right is under the handle, nothing changes. Where
+    /// there are several, which cannot happen with a correct agent, the request
+    /// is about the oldest of them.
     pub fn tell(&mut self, request: &Request<'_>, status: u8) {
         if status != Status::Success.number() {
             return;
@@ -102,7 +102,7 @@ impl Ledger {
         }
     }
 
-    /// "kind 1 opens a setup of the length asked".
+    /// Kind 1 opens a setup of the length asked for.
     fn open_setup(&mut self, fields: &Fields<'_>) {
         self.setups.push(Setup {
             handle: fields.handle,
@@ -110,8 +110,8 @@ impl Ledger {
         });
     }
 
-    /// "2 closes the one under its handle and makes a new right, for use
-    /// under that handle with the fields sent".
+    /// Kind 2 closes the setup under its handle and makes a new right, for use
+    /// under that handle, with the request's fields.
     fn install(&mut self, fields: &Fields<'_>) {
         self.close_setup(&fields.handle);
         self.rights.push(Right {
@@ -124,7 +124,8 @@ impl Ledger {
         });
     }
 
-    /// "3 and 4 make the right under the handle lent under the new one".
+    /// Kinds 3 and 4 lend the right under the handle; from then on it is under
+    /// the new handle.
     fn lend(&mut self, fields: &Fields<'_>) {
         if let Some(right) = self.right_under(&fields.handle) {
             right.standing = Standing::Lent;
@@ -132,8 +133,8 @@ impl Ledger {
         }
     }
 
-    /// "5 makes a lent right for use with the request's count and leaves one
-    /// for use as it is".
+    /// Kind 5 makes a lent right for use, with the request's count, and leaves
+    /// a right for use as it is.
     fn take_back(&mut self, fields: &Fields<'_>) {
         if let Some(right) = self.right_under(&fields.handle) {
             if right.standing == Standing::Lent {
@@ -143,14 +144,14 @@ impl Ledger {
         }
     }
 
-    /// "after 6 the right is gone".
+    /// After kind 6 the right is gone.
     fn remove(&mut self, fields: &Fields<'_>) {
         if let Some(right) = self.right_under(&fields.handle) {
             right.standing = Standing::Gone;
         }
     }
 
-    /// "7 closes the setup".
+    /// Kind 7 closes the setup under its handle; kind 2 does that too.
     fn close_setup(&mut self, handle: &Handle) {
         if let Some(index) = self.setups.iter().position(|s| s.handle == *handle) {
             self.setups.remove(index);
@@ -165,10 +166,11 @@ impl Ledger {
     }
 }
 
-/// Holds a table against a ledger: the table is well formed, each open setup
-/// has one reserved slot, each right for use one enabled slot, each right
-/// lent one disabled slot, with every field as told, and all other slots are
-/// empty. The order of the slots does not matter.
+/// Compares a table with a ledger: the table must be well formed, and have one
+/// reserved slot for each open setup, one enabled slot for each right for use
+/// and one disabled slot for each right lent, with every field as the ledger
+/// has it; all other slots must be empty. The order of the slots does not
+/// matter (PROFILE 8.3).
 ///
 /// # Errors
 ///
@@ -191,7 +193,7 @@ pub fn agrees(ledger: &Ledger, table: &[u8]) -> Result<(), String> {
     }
 }
 
-/// What to say of a told record that no slot holds.
+/// What to say of a record of the ledger that no slot holds.
 fn missing(told: &Record, held: &[Record]) -> String {
     match held.iter().find(|record| record.handle == told.handle) {
         Some(other) => format!(
@@ -216,7 +218,7 @@ fn first_difference(told: &Record, held: &Record) -> &'static str {
     first.map_or("payload", |(name, _)| name)
 }
 
-/// A non-empty record, as a ledger tells it or as a slot holds it.
+/// A non-empty record, as a ledger has it or as a slot holds it.
 #[derive(PartialEq, Eq)]
 struct Record {
     place: Place,

@@ -1,22 +1,21 @@
 //! An independent second implementation of the card profile.
 //!
-//! Everything here follows document 01, "The build described, with its
-//! rules", and nothing else. It exists to be compared with the verified
-//! implementation, byte for byte, so it shares no code and no structure with
-//! it. The quotes in the comments are document 01's own words; where a rule
-//! can be read in two ways, the comment says which reading was taken.
+//! Everything here was written from the card profile (docs/PROFILE.md) alone.
+//! It exists to be compared with the verified implementation, byte for byte,
+//! so it shares no code and no structure with it. The comments cite the
+//! section of the profile that a rule comes from, as `PROFILE 2.4`.
 //!
 //! # What is here
 //!
-//! | item | document 01 |
-//! |---|---|
-//! | [`call`] | the card agent: a lent table, a request frame, a lent reply buffer |
-//! | [`write_request`] | the request writer of the device end |
-//! | [`read_request`] | "a request with its fields or exactly one refusal" |
-//! | [`read_reply`] | the reply reader of the device end |
-//! | [`listing`] | what the program `cardlist` prints |
-//! | [`ledger`] | the history, "told without a table, by status 0 only" |
-//! | [`table`], [`slot`] | well-formedness, and one accessor for each field |
+//! | item | what it is | PROFILE |
+//! |---|---|---|
+//! | [`call`] | the card agent: a lent table, a request frame, a lent reply buffer | 1.1, 4, 5 |
+//! | [`write_request`] | the device's request writer | 6.2 |
+//! | [`read_request`] | the request reader, which the card uses too | 6.1 |
+//! | [`read_reply`] | the device's reply reader | 6.3 |
+//! | [`listing`] | what the program `cardlist` prints | 7 |
+//! | [`ledger`] | the history of rights, told by requests and statuses | 8 |
+//! | [`table`], [`slot`] | well-formedness, and one accessor for each field | 2 |
 //!
 //! # How it is built
 //!
@@ -26,12 +25,12 @@
 //! change it makes: the functions for the single kinds answer
 //! `Result<Vec<u8>, Status>`, and the table is written after their last `?`.
 //!
-//! "All fields are packed most significant bit first": numbers of two bytes
-//! are big-endian, and the first field of a byte is in its highest bits.
+//! Numbers of two bytes are big-endian, and the first field of a byte is in
+//! its highest bits.
 //!
 //! # Example
 //!
-//! Case 1 of document 01, on a blank table of one slot:
+//! Case 1 of the card profile (PROFILE 9.1), on a blank table of one slot:
 //!
 //! ```
 //! use reference::{call, listing, write_request, Fields, REPLY_ROOM, SLOT_BYTES};
@@ -76,10 +75,10 @@ pub use slot::{Place, SLOT_BYTES};
 pub use status::Status;
 pub use table::{well_formed, MAX_SLOTS};
 
-/// A handle: "Any ten bytes may be a handle, zeros included".
+/// A handle: any ten bytes, zeros included (PROFILE 2.6).
 pub type Handle = [u8; HANDLE_BYTES];
 
-/// A key (REK) of sixteen bytes: "any key may be zero".
+/// A key (REK): any sixteen bytes, zeros included (PROFILE 2.6).
 pub type Key = [u8; KEY_BYTES];
 
 /// The bytes of a handle.
@@ -88,10 +87,10 @@ pub const HANDLE_BYTES: usize = 10;
 /// The bytes of a key.
 pub const KEY_BYTES: usize = 16;
 
-/// The bytes of one asset hash: "20 bytes (SHA-1)".
+/// The bytes of one asset hash, which is a SHA-1.
 pub const HASH_BYTES: usize = 20;
 
-/// "up to 8 asset hashes".
+/// The most asset hashes of a right, or of a query.
 pub const MAX_HASHES: usize = 8;
 
 /// The longest payload, and the longest room that can be reserved.

@@ -5,13 +5,14 @@ use crate::table;
 
 const HEADER: &str = "slot place hashes count length\n";
 
-/// The output for a table: "a header, then per slot: index, place, hash
-/// count, count, payload length: the place as its word, the rest in decimal,
-/// index from 0, one space between, a newline byte after each line". "For a
-/// refused table it prints one line, as `refused 103`", which ends with a
-/// newline too; the number is 102 or 103, in this order.
+/// The output for a table: a header, then a line for each slot with its index
+/// (counted from 0), its place as a word, and its hash count, count and payload
+/// length in decimal, with one space between two of them (PROFILE 7.1). A
+/// reserved slot's length is the room asked for.
 ///
-/// The length in the line of a reserved slot is the room asked for.
+/// A table that is refused has one line instead, `refused 102` or
+/// `refused 103`; 102 is tested first (PROFILE 7.2). Every line ends with a
+/// newline.
 pub fn listing(table: &[u8]) -> Vec<u8> {
     match table::check(table) {
         Ok(()) => lines(table::slots(table)),

@@ -1,27 +1,28 @@
-//! The numbers that a function gives back instead of a frame.
+//! The numbers that functions give back.
 
 /// The call wrote a reply, or the writer wrote a request.
 pub const DONE: u16 = 0;
 
-/// "101 reply buffer under 4,279 bytes".
+/// The reply buffer has fewer than 4,279 bytes (PROFILE 4.1).
 pub const REPLY_BUFFER_SHORT: u16 = 101;
 
-/// "102 table length not 1 to 15 whole slots".
+/// The table is not 1 to 15 whole slots (PROFILE 4.1).
 pub const TABLE_LENGTH: u16 = 102;
 
-/// "103 table not well formed".
+/// The table is not well formed (PROFILE 4.1).
 pub const TABLE_NOT_WELL_FORMED: u16 = 103;
 
-/// "104 frame under 4 bytes, or its length not 4 plus its body length".
+/// The frame has fewer than 4 bytes, or is not 4 bytes and its body length long
+/// (PROFILE 4.1).
 pub const NO_FRAME: u16 = 104;
 
-/// "201 buffer shorter than the frame".
+/// The writer's buffer is shorter than the frame (PROFILE 6.2).
 pub const WRITER_BUFFER_SHORT: u16 = 201;
 
-/// "202 kind not 1 to 9, hash bytes not a multiple of 20 up to 160, for kind
-/// 2 a payload not 1 to 4,096 bytes, or a field that the kind lacks and that
-/// is not empty or zero".
+/// The writer cannot write these fields (PROFILE 6.2): the kind is not 1 to 9,
+/// the hashes are not 0 to 8 times 20 bytes, the payload of kind 2 is not 1 to
+/// 4,096 bytes, or a field that the kind lacks is not zero or empty.
 pub const WRITER_FIELDS: u16 = 202;
 
-/// "The reply reader refuses with 203".
+/// The reply reader was not given a reply (PROFILE 6.3).
 pub const NO_REPLY: u16 = 203;

@@ -6,10 +6,10 @@ use crate::frame::{self, Frame};
 use crate::number::NO_REPLY;
 use crate::{Key, Kind, Status, HANDLE_BYTES, KEY_BYTES, MAX_SLOTS};
 
-/// The bit of the first body byte of kind 8 that says "more".
+/// The bit of kind 8's first body byte that says that a handle was left off.
 const MORE: u8 = 0b1000_0000;
 
-/// The "7 zero bits" beside it.
+/// The seven zero bits beside it.
 const ZERO_BITS: u8 = 0b0111_1111;
 
 /// In the body of kind 9, the count comes before the payload.
@@ -42,7 +42,7 @@ pub struct ReplyFields<'a> {
 /// A reply that the reader accepts.
 #[derive(Clone, Copy, Debug, PartialEq, Eq)]
 pub struct Reply<'a> {
-    /// "kind 5 bits as asked": 0 to 31, and 1 to 9 where the status is 0.
+    /// The kind bits of the request: 0 to 31, and 1 to 9 where the status is 0.
     pub kind: u8,
     /// The status.
     pub status: Status,
@@ -50,9 +50,9 @@ pub struct Reply<'a> {
     pub fields: ReplyFields<'a>,
 }
 
-/// Reads a reply frame: "refuses with 203 unless length, version and zero
-/// bits are right, status is 0 to 8, and the body is empty for a status other
-/// than 0 or of its kind's shape for 0".
+/// Reads a reply frame (PROFILE 6.3). It is refused with 203 unless its length
+/// and version are right, the status is 0 to 8, and the body is of its kind's
+/// shape at status 0 and empty at any other.
 pub fn read_reply(bytes: &[u8]) -> Result<Reply<'_>, u16> {
     read(bytes).ok_or(NO_REPLY)
 }
@@ -71,8 +71,8 @@ fn read(bytes: &[u8]) -> Option<Reply<'_>> {
     })
 }
 
-/// Reads the body of a reply with status 0: "no success for kinds outside 1
-/// to 9".
+/// Reads the body of a reply with status 0. A kind outside 1 to 9 has no
+/// success.
 fn read_success(kind_bits: u8, body: &[u8]) -> Option<ReplyFields<'_>> {
     match Kind::from_number(kind_bits)? {
         Kind::InstallationSetup
@@ -87,12 +87,13 @@ fn read_success(kind_bits: u8, body: &[u8]) -> Option<ReplyFields<'_>> {
     }
 }
 
-/// "Every status but 0 has an empty body", and some successes too.
+/// No body: that of every status but 0, and of some successes.
 fn read_empty(body: &[u8]) -> Option<ReplyFields<'_>> {
     body.is_empty().then(ReplyFields::default)
 }
 
-/// "kind 3: zero bits 0, at most 8 hashes, payload 1 to 4,096".
+/// Kind 3: a content with its zero bits 0, at most 8 hashes and a payload of 1
+/// to 4,096 bytes.
 fn read_content(body: &[u8]) -> Option<ReplyFields<'_>> {
     let content = Content::read(body)?;
     Some(ReplyFields {
@@ -112,7 +113,7 @@ fn read_key(body: &[u8]) -> Option<ReplyFields<'_>> {
     })
 }
 
-/// "kind 8: zero bits 0, 0 to 15 whole handles".
+/// Kind 8: a byte whose seven zero bits are 0, then 0 to 15 whole handles.
 fn read_handles(body: &[u8]) -> Option<ReplyFields<'_>> {
     let (&first, handles) = body.split_first()?;
     (first & ZERO_BITS == 0 && handles_are_whole(handles)).then_some(ReplyFields {
@@ -126,7 +127,7 @@ fn handles_are_whole(handles: &[u8]) -> bool {
     handles.len().is_multiple_of(HANDLE_BYTES) && handles.len() <= HANDLE_BYTES * MAX_SLOTS
 }
 
-/// "kind 9: payload 1 to 4,096", after the count.
+/// Kind 9: the count, then a payload of 1 to 4,096 bytes.
 fn read_information(body: &[u8]) -> Option<ReplyFields<'_>> {
     let (count, payload) = body.split_at_checked(COUNT_BYTES)?;
     payload_length_is_right(payload.len()).then_some(ReplyFields {
@@ -136,9 +137,8 @@ fn read_information(body: &[u8]) -> Option<ReplyFields<'_>> {
     })
 }
 
-/// The bytes of the reply to a request that was carried out, or not: "version
-/// 3 bits (1), kind 5 bits as asked; status 8 bits; body length 16 bits;
-/// body. Every status but 0 has an empty body."
+/// The frame of the reply to a request, carried out or refused: the kind bits
+/// are those of the request, and a refusal has an empty body (PROFILE 3.2).
 pub(crate) fn reply_frame(kind_bits: u8, outcome: &Result<Vec<u8>, Status>) -> Vec<u8> {
     match outcome {
         Ok(body) => frame::join(kind_bits, Status::Success.number(), body),
@@ -146,14 +146,14 @@ pub(crate) fn reply_frame(kind_bits: u8, outcome: &Result<Vec<u8>, Status>) -> V
     }
 }
 
-/// The body "more 1 bit, 7 zero bits, handles" of kind 8.
+/// The body of kind 8: a byte with the bit "more", then the handles.
 pub(crate) fn handles_body(more: bool, handles: &[crate::Handle]) -> Vec<u8> {
     let mut body = vec![if more { MORE } else { 0 }];
     body.extend(handles.as_flattened());
     body
 }
 
-/// The body "count, payload" of kind 9.
+/// The body of kind 9: the count, then the payload.
 pub(crate) fn information_body(count: u16, payload: &[u8]) -> Vec<u8> {
     let mut body = count.to_be_bytes().to_vec();
     body.extend(payload);

@@ -6,14 +6,15 @@ use crate::frame::{self, Frame};
 use crate::number::{DONE, WRITER_BUFFER_SHORT, WRITER_FIELDS};
 use crate::{Handle, Key, Kind, Status, HANDLE_BYTES, HASH_BYTES, MAX_HASHES};
 
-/// The second byte of a request with "verdict 1 bit (1 means the MAC held)".
+/// The verdict bit in the second byte of a request, set where the MAC held
+/// (PROFILE 3.1).
 const VERDICT: u8 = 0b1000_0000;
 
-/// The "7 zero bits" of the second byte of a request.
+/// The seven zero bits of the second byte of a request.
 const ZERO_BITS: u8 = 0b0111_1111;
 
-/// In the body of kind 8, "limit 16 bits, hash count 8 bits" come before the
-/// hashes.
+/// The bytes before the hashes in the body of kind 8: a limit of 16 bits and a
+/// hash count of 8 bits.
 const LIST_HEAD_BYTES: usize = 3;
 
 /// The fields of a request of any kind. A field that the kind lacks is zero
@@ -58,10 +59,11 @@ pub struct Request<'a> {
     pub fields: Fields<'a>,
 }
 
-/// "A frame is either a request with its fields or exactly one refusal".
+/// What a frame reads as: a request with its fields, or exactly one refusal
+/// (PROFILE 6.1).
 #[derive(Clone, Copy, Debug, PartialEq, Eq)]
 pub enum ReadRequest<'a> {
-    /// 104: "frame under 4 bytes, or its length not 4 plus its body length".
+    /// 104: the bytes are not a frame.
     NoFrame,
     /// A frame that the agent answers with this status, whatever the table.
     Refused(Status),
@@ -69,8 +71,9 @@ pub enum ReadRequest<'a> {
     Request(Request<'a>),
 }
 
-/// Reads a request frame: "104, then the tests for all kinds, then the field
-/// tests of kinds 2 and 8 (length 0 of kind 1 is the agent's)".
+/// Reads a request frame (PROFILE 6.1): tests first for 104, then what is tested
+/// for all kinds, then the fields of kinds 2 and 8. The agent, not the reader,
+/// refuses length 0 in kind 1.
 pub fn read_request(bytes: &[u8]) -> ReadRequest<'_> {
     let Some(frame) = Frame::split(bytes) else {
         return ReadRequest::NoFrame;
@@ -87,9 +90,10 @@ fn read_frame<'a>(frame: &Frame<'a>) -> Result<Request<'a>, Status> {
     Ok(Request { kind, fields })
 }
 
-/// "First, for all kinds: version not 1 or one of the 7 zero bits set, 2;
-/// kind not 1 to 9, 3; body length outside the kind's, 2; verdict 0 for kinds
-/// 1 to 7, 1".
+/// The tests for all kinds, in their order (PROFILE 4.3): status 2 for a
+/// version other than 1 or a zero bit that is set, 3 for a kind outside 1 to 9,
+/// 2 for a body length that the kind cannot have, and 1 for a verdict of 0 in
+/// kinds 1 to 7.
 fn test_for_all_kinds(frame: &Frame<'_>) -> Result<Kind, Status> {
     if !frame.version_is_right() || frame.second & ZERO_BITS != 0 {
         return Err(Status::ParameterFailed);
@@ -131,9 +135,8 @@ fn read_fields(kind: Kind, body: &[u8]) -> Option<Fields<'_>> {
     Some(Fields { handle, ..fields })
 }
 
-/// The field tests of kind 2: "hash count over 8, the 4 bits not zero, or
-/// payload (body less 29 less 20 times the hash count) not 1 to 4,096 bytes,
-/// 2".
+/// The field tests of kind 2 (PROFILE 5.2): at most 8 hashes, the four zero bits
+/// 0, and a payload of 1 to 4,096 bytes after the hashes.
 fn read_content_fields(content: &[u8]) -> Option<Fields<'_>> {
     let content = Content::read(content)?;
     Some(Fields {
@@ -145,8 +148,8 @@ fn read_content_fields(content: &[u8]) -> Option<Fields<'_>> {
     })
 }
 
-/// The field tests of kind 8: "hash count over 8, or body not 3 plus 20 times
-/// the hash count, 2".
+/// The field tests of kind 8 (PROFILE 5.8): at most 8 hashes, and a body that
+/// ends where they end.
 fn read_list_fields(body: &[u8]) -> Option<Fields<'_>> {
     let (head, hashes) = body.split_at_checked(LIST_HEAD_BYTES)?;
     let hash_count = usize::from(head[2]);
@@ -157,9 +160,9 @@ fn read_list_fields(body: &[u8]) -> Option<Fields<'_>> {
     })
 }
 
-/// Writes a request frame at the start of `out` and gives 0, or refuses with
-/// 202 or 201, in that order. It "writes the verdict as 1", "leaves the rest
-/// of its buffer as found" and on a refusal changes no byte.
+/// Writes a request frame at the start of `out`, with a verdict of 1, and gives
+/// 0; or refuses with 202 or 201, tested in that order (PROFILE 6.2). The bytes
+/// after the frame keep what they held, and a refusal changes no byte.
 pub fn write_request(kind: u8, fields: &Fields<'_>, out: &mut [u8]) -> u16 {
     let Some(kind) = Kind::from_number(kind) else {
         return WRITER_FIELDS;
@@ -175,9 +178,9 @@ pub fn write_request(kind: u8, fields: &Fields<'_>, out: &mut [u8]) -> u16 {
     DONE
 }
 
-/// Whether the writer takes these fields; the opposite of "hash bytes not a
-/// multiple of 20 up to 160, for kind 2 a payload not 1 to 4,096 bytes, or a
-/// field that the kind lacks and that is not empty or zero".
+/// Whether the writer takes these fields: the hashes are 0 to 8 times 20 bytes,
+/// the payload of kind 2 is 1 to 4,096 bytes, and every field that the kind
+/// lacks is zero or empty.
 fn fields_are_right(kind: Kind, fields: &Fields<'_>) -> bool {
     hashes_are_whole(fields.hashes)
         && (kind != Kind::RightsInstallation || payload_length_is_right(fields.payload.len()))
@@ -239,7 +242,7 @@ fn body(kind: Kind, fields: &Fields<'_>) -> Vec<u8> {
     body
 }
 
-/// "limit 16 bits, hash count 8 bits, hashes".
+/// The body of kind 8: the limit, the hash count and the hashes.
 fn list_body(fields: &Fields<'_>) -> Vec<u8> {
     let mut body = fields.limit.to_be_bytes().to_vec();
     body.push(hash_count(fields.hashes));

@@ -18,10 +18,10 @@ use crate::bytes::{all_zero, array_at, u16_at};
 use crate::content::{self, Content};
 use crate::{Handle, Key, HANDLE_BYTES, HASH_BYTES, KEY_BYTES, MAX_HASHES};
 
-/// "A slot has 4,288 bytes".
+/// The bytes of a slot.
 pub const SLOT_BYTES: usize = 4288;
 
-/// The bytes of one slot.
+/// One slot, as bytes.
 pub type SlotBytes = [u8; SLOT_BYTES];
 
 const HANDLE_AT: usize = 1;
@@ -32,8 +32,7 @@ const HASHES_AT: usize = 31;
 const ZERO_AT: usize = 191;
 const PAYLOAD_AT: usize = 192;
 
-/// "The place of a record is one of four: 0 empty, 1 reserved, 2 enabled, 3
-/// disabled".
+/// The place of a record, with its number (PROFILE 2.3).
 #[derive(Clone, Copy, Debug, PartialEq, Eq, PartialOrd, Ord)]
 #[repr(u8)]
 pub enum Place {
@@ -48,7 +47,7 @@ pub enum Place {
 }
 
 impl Place {
-    /// The place "as its word".
+    /// The place as the listing has it.
     pub fn word(self) -> &'static str {
         match self {
             Place::Empty => "empty",
@@ -89,23 +88,23 @@ pub fn key(slot: &SlotBytes) -> Key {
     array_at(slot, KEY_AT)
 }
 
-/// The count; "A count of 0 says that the right keeps no count".
+/// The count; 0 says that the right keeps no count.
 pub fn count(slot: &SlotBytes) -> u16 {
     u16_at(slot, COUNT_AT)
 }
 
-/// The payload length, which in a reserved slot is "the room asked for".
+/// The payload length, which in a reserved slot is the room asked for.
 pub fn length(slot: &SlotBytes) -> u16 {
     u16_at(slot, LENGTH_AT)
 }
 
-/// The bytes of the hashes that the hash count tells of, at most 8 hashes.
+/// The bytes of as many hashes as the hash count says, at most 8.
 pub fn hashes(slot: &SlotBytes) -> &[u8] {
     split_hashes(slot).0
 }
 
-/// The payload bytes that the length tells of, at most 4,096 of them; none
-/// unless the slot is enabled or disabled.
+/// As many payload bytes as the length says, at most 4,096; none unless the
+/// slot is enabled or disabled.
 pub fn payload(slot: &SlotBytes) -> &[u8] {
     match place(slot) {
         Place::Empty | Place::Reserved => &[],
@@ -113,8 +112,8 @@ pub fn payload(slot: &SlotBytes) -> &[u8] {
     }
 }
 
-/// Whether the slot is not empty and its handle is `wanted`: "all but empty
-/// have a handle".
+/// Whether the slot is not empty and its handle is `wanted`: an empty slot has
+/// no handle.
 pub fn has_handle(slot: &SlotBytes, wanted: &Handle) -> bool {
     place(slot) != Place::Empty && handle(slot) == *wanted
 }
@@ -124,7 +123,7 @@ pub fn has_hash_of(slot: &SlotBytes, wanted: &[u8]) -> bool {
     each_hash(wanted).any(|hash| each_hash(hashes(slot)).any(|own| own == hash))
 }
 
-/// Whether the slot is well formed.
+/// Whether the slot is well formed (PROFILE 2.4).
 pub fn well_formed(slot: &SlotBytes) -> bool {
     spare_bits(slot) == 0
         && slot[ZERO_AT] == 0
@@ -143,12 +142,12 @@ fn well_formed_for_place(slot: &SlotBytes) -> bool {
     }
 }
 
-/// "length 1 to 4,096".
+/// Whether the length is 1 to 4,096.
 fn length_is_right(slot: &SlotBytes) -> bool {
     content::payload_length_is_right(length(slot).into())
 }
 
-/// "hash count, key, count and payload all 0".
+/// Whether hash count, key, count and payload are all 0.
 fn holds_no_right(slot: &SlotBytes) -> bool {
     hash_count(slot) == 0
         && all_zero(&key(slot))
@@ -172,15 +171,15 @@ fn split_payload(slot: &SlotBytes) -> (&[u8], &[u8]) {
     all.split_at(all.len().min(length(slot).into()))
 }
 
-/// Kind 1: "The lowest empty slot becomes reserved". The slot is empty.
+/// Kind 1: reserves the slot, which is empty.
 pub(crate) fn reserve(slot: &mut SlotBytes, handle: &Handle, length: u16) {
     set_place(slot, Place::Reserved);
     set_handle(slot, handle);
     put(slot, LENGTH_AT, &length.to_be_bytes());
 }
 
-/// Kind 2: "The record becomes enabled with the fields given; its length is
-/// the payload's". The slot is reserved, so all that is not written is 0.
+/// Kind 2: enables the record with a content; its length becomes the payload's.
+/// The slot is reserved, so all that is not written is 0.
 pub(crate) fn fill(slot: &mut SlotBytes, content: &Content<'_>) {
     let length = u16::try_from(content.payload.len()).expect("a payload has at most 4,096 bytes");
     slot[0] = content::hash_count(content.hashes) << 2;
@@ -192,20 +191,20 @@ pub(crate) fn fill(slot: &mut SlotBytes, content: &Content<'_>) {
     put(slot, PAYLOAD_AT, content.payload);
 }
 
-/// Kinds 3 and 4: "The handle is overwritten, the record disabled, nothing
-/// else".
+/// Kinds 3 and 4: disables the record under a new handle, and changes nothing
+/// else.
 pub(crate) fn lend(slot: &mut SlotBytes, new_handle: &Handle) {
     set_place(slot, Place::Disabled);
     set_handle(slot, new_handle);
 }
 
-/// Kind 5: "A disabled record is enabled with the request's count".
+/// Kind 5: enables a disabled record with a count.
 pub(crate) fn enable(slot: &mut SlotBytes, count: u16) {
     set_place(slot, Place::Enabled);
     set_count(slot, count);
 }
 
-/// Kinds 6 and 7: "All bytes of the slot become 0".
+/// Kinds 6 and 7: clears every byte of the slot.
 pub(crate) fn clear(slot: &mut SlotBytes) {
     slot.fill(0);
 }

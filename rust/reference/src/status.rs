@@ -1,6 +1,6 @@
 //! The statuses of a reply.
 
-/// The status of a reply, with the number that document 01 gives it.
+/// The status of a reply, with its number (PROFILE 4.2).
 #[derive(Clone, Copy, Debug, PartialEq, Eq, PartialOrd, Ord)]
 #[repr(u8)]
 pub enum Status {
@@ -16,13 +16,13 @@ pub enum Status {
     HandleNotFound = 4,
     /// A handle to be given out is in some slot already.
     DuplicateHandle = 5,
-    /// The record is in a place where the request makes no sense.
+    /// The record is in a place that the request is not for.
     UnexpectedRequest = 6,
     /// No slot is empty, or the length is more than there is room for.
     NotEnoughSpace = 7,
-    /// "the request's handle is in more than one slot". A table where that is
-    /// so is not well formed, so [`call`](crate::call) gives 103 before it
-    /// could send this status. The reply reader knows it none the less.
+    /// The request's handle is in more than one slot. Such a table is not well
+    /// formed, so [`call`](crate::call) gives 103 before it could send this
+    /// status. The reply reader takes it all the same.
     TwoRecords = 8,
 }
 
@@ -40,7 +40,7 @@ impl Status {
         Status::TwoRecords,
     ];
 
-    /// The status of this number, or `None` unless "status is 0 to 8".
+    /// The status of this number; `None` unless it is 0 to 8.
     pub fn from_number(number: u8) -> Option<Status> {
         Status::ALL
             .into_iter()

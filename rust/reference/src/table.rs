@@ -4,7 +4,7 @@ use crate::number::{TABLE_LENGTH, TABLE_NOT_WELL_FORMED};
 use crate::slot::{self, Place, SlotBytes};
 use crate::{Handle, SLOT_BYTES};
 
-/// "a table has 1 to 15 slots".
+/// The most slots of a table; the fewest is 1.
 pub const MAX_SLOTS: usize = 15;
 
 /// The whole slots of a table, in order.
@@ -22,8 +22,8 @@ pub fn well_formed(table: &[u8]) -> bool {
     check(table).is_ok()
 }
 
-/// Tests a table: 102 for a "table length not 1 to 15 whole slots", then 103
-/// for a "table not well formed".
+/// Tests a table (PROFILE 4.1): 102 where it is not 1 to 15 whole slots, then
+/// 103 where it is not well formed (PROFILE 2.5).
 pub fn check(table: &[u8]) -> Result<(), u16> {
     if !length_is_right(table) {
         return Err(TABLE_LENGTH);
@@ -40,14 +40,14 @@ fn length_is_right(table: &[u8]) -> bool {
     (1..=MAX_SLOTS).contains(&slots.len()) && rest.is_empty()
 }
 
-/// Whether "two non-empty slots have the same handle".
+/// Whether two non-empty slots have the same handle.
 fn two_share_a_handle(slots: &[SlotBytes]) -> bool {
     slots.iter().enumerate().any(|(index, slot)| {
         slot::place(slot) != Place::Empty && holds(&slots[index + 1..], &slot::handle(slot))
     })
 }
 
-/// Whether the handle is "in any non-empty slot".
+/// Whether some non-empty slot has the handle.
 pub(crate) fn holds(slots: &[SlotBytes], handle: &Handle) -> bool {
     slots.iter().any(|slot| slot::has_handle(slot, handle))
 }
@@ -66,7 +66,7 @@ pub(crate) enum Found {
     Absent,
     /// In the slot of this index and in no other.
     At(usize),
-    /// "in more than one slot".
+    /// In more than one slot.
     InSeveral,
 }
 

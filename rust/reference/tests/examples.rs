@@ -1,4 +1,5 @@
-//! The worked examples 1 to 15 of document 01, as one table.
+//! The worked examples of the card profile, cases 1 to 15 (PROFILE 9), as one
+//! table.
 
 mod common;
 
@@ -22,7 +23,7 @@ enum Start {
 enum End {
     /// The table as it was.
     Same,
-    /// A slot whose bytes are 0 but for these, each run at its offset.
+    /// A slot with these runs of bytes, each at its offset, and 0 elsewhere.
     Slot(&'static [(usize, &'static str)]),
 }
 
@@ -222,7 +223,7 @@ fn bytes(text: &str) -> Vec<u8> {
         .collect()
 }
 
-/// A table of one slot whose bytes are 0 but for these runs.
+/// A table of one slot with these runs of bytes and 0 elsewhere.
 fn slot(runs: &[(usize, &str)]) -> Vec<u8> {
     let mut table = vec![0; SLOT_BYTES];
     for (offset, text) in runs {

@@ -10,7 +10,7 @@ fn text(table: &[u8]) -> String {
 }
 
 #[test]
-fn document_example_is_exact() {
+fn the_profiles_example_is_exact() {
     let mut table = blank(1);
     call_for(0, &mut table, 1, &setup(1, 5));
     assert_eq!(

@@ -115,8 +115,8 @@ fn share_a_hash(right: &Right, hashes: &[u8]) -> bool {
     !of(&right.hashes).is_disjoint(&of(hashes))
 }
 
-/// Every status that document 01 gives to a kind; 0 stands for kinds outside
-/// 1 to 9.
+/// Every status that a kind can have (PROFILE 4.2, 5); 0 stands for the kinds
+/// outside 1 to 9.
 fn statuses_by_kind() -> BTreeSet<(u8, u8)> {
     let rows: [(u8, &[u8]); 10] = [
         (0, &[2, 3]),
@@ -234,7 +234,7 @@ fn refused_calls_change_nothing() {
         } else if length != 4288 && length != 8576 {
             102
         } else if table.iter().any(|&byte| byte != 0) {
-            103 // one byte of an empty slot, or random ones
+            103 // one byte of an empty slot, or random bytes
         } else if read_request(&frame) == NoFrame {
             104
         } else {

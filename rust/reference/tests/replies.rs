@@ -5,7 +5,7 @@ mod common;
 use common::request_bytes;
 use reference::{read_reply, Reply, ReplyFields, Status};
 
-/// A reply frame, put together apart from the library.
+/// A reply frame, put together without the library.
 fn reply_bytes(kind: u8, status: u8, body: &[u8]) -> Vec<u8> {
     // replies and requests differ in the second byte only
     request_bytes(kind, status, body)

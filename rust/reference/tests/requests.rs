@@ -11,7 +11,7 @@ const NEW_HANDLE: [u8; 10] = [11, 12, 13, 14, 15, 16, 17, 18, 19, 20];
 const KEY: [u8; 16] = [0xC1; 16];
 const TWO_HASHES: [u8; 40] = [0xE1; 40];
 
-/// A request of each kind with its frame, all but the body in full.
+/// A request of each kind, with its whole frame.
 fn samples() -> Vec<(u8, Fields<'static>, Vec<u8>)> {
     let handle = Fields {
         handle: HANDLE,
@@ -102,7 +102,7 @@ fn a_buffer_that_is_shorter_is_201() {
     }
 }
 
-/// Asserts 202 for a long buffer, with no byte changed, and for none at all:
+/// Asserts 202 for a long buffer, with no byte changed, and for an empty one:
 /// 202 is tested before 201.
 fn assert_202(kind: u8, fields: &Fields<'_>) {
     let mut buffer = vec![FILLER; 5000];

@@ -1,4 +1,5 @@
-//! The statuses of the single kinds, in their order, and what a success does.
+//! The statuses of each kind, in the order of their tests, and what a success
+//! does.
 
 mod common;
 
@@ -228,13 +229,13 @@ fn lists_of_the_mixed_table() {
     assert_eq!(list(&mut table, 10, &[]), (vec![ENABLED], true));
     assert_eq!(list(&mut table, 9, &[]), (vec![], true));
     assert_eq!(list(&mut table, 1, &[]), (vec![], true));
-    // hashes 1 and 2 are the first record's, 1 to 8 a disabled one's
+    // the first record has hashes 1 and 2, and a disabled one has 1 to 8
     assert_eq!(list(&mut table, 0, &[1]), (vec![ENABLED], false));
     assert_eq!(list(&mut table, 0, &[2]), (vec![ENABLED], false));
     assert_eq!(list(&mut table, 0, &[7, 2, 2, 1]), (vec![ENABLED], false));
     assert_eq!(list(&mut table, 9, &[1]), (vec![], true));
     assert_eq!(list(&mut table, 0, &[3]), (vec![], false));
-    // zeros in unused hash bytes are no hash
+    // zeros in unused hash bytes are not a hash
     assert_eq!(list(&mut table, 0, &[0]), (vec![], false));
     assert_eq!(list(&mut table, 1, &[0]), (vec![], false));
 }

@@ -12,7 +12,7 @@ const RESERVED: usize = SLOT_BYTES;
 const DISABLED: usize = 2 * SLOT_BYTES;
 const EMPTY: usize = 3 * SLOT_BYTES;
 
-/// Asserts that a table is refused everywhere, and unchanged.
+/// Asserts that every function refuses a table and leaves it unchanged.
 fn assert_refused(number: u16, before: &[u8], what: &str) {
     assert!(!well_formed(before), "{what}");
     assert_eq!(table::check(before), Err(number), "{what}");
@@ -60,7 +60,7 @@ fn accessors_read_the_mixed_table() {
     assert!(slots[3].iter().all(|&byte| byte == 0));
 }
 
-/// Each row sets some bytes of the mixed table and so breaks one rule.
+/// Each row sets some bytes of the mixed table, which breaks one rule.
 #[test]
 fn each_rule_alone_is_103() {
     let rows: &[(&str, &[(usize, u8)])] = &[
@@ -87,7 +87,7 @@ fn each_rule_alone_is_103() {
         ("empty with a length", &[(EMPTY + 30, 1)]),
         ("empty with a hash", &[(EMPTY + 31, 1)]),
         ("empty with a payload", &[(EMPTY + 192, 1)]),
-        ("a right in an empty place", &[(ENABLED, 0x08)]),
+        ("a right in a slot marked empty", &[(ENABLED, 0x08)]),
         ("reserved, length 0", &[(RESERVED + 30, 0)]),
         (
             "reserved, length 4,097",
@@ -159,7 +159,7 @@ fn equal_hashes_and_8_of_them_are_well_formed() {
     assert!(well_formed(&table));
 }
 
-/// Each call has the faults of all later numbers as well.
+/// Each call has the faults of all later numbers too.
 #[test]
 fn numbers_are_tested_in_order() {
     let mut ill_formed = blank(1);

@@ -1,4 +1,4 @@
-/* What the driver needs of the standard header, for a compiler that comes without its own. */
+/* The part of the standard header that the C programs here need, for a compiler that comes without its own. */
 #ifndef STDDEF_H
 #define STDDEF_H
 

@@ -1,6 +1,6 @@
-//! The archive by way of the driver, on machines that are not x86-64: for
-//! tests and demonstrations. One driver serves the whole program, a command at
-//! a time, and ends with it.
+//! The archive reached through the driver, on machines that are not x86-64, for
+//! tests and demonstrations. One driver serves the whole program, one command
+//! at a time, and ends with it.
 
 use super::Fields;
 use crate::{KEY_BYTES, LISTING_ROOM};

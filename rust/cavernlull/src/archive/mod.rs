@@ -1,5 +1,5 @@
-//! The functions of the archive, one way or the other, with the types of
-//! Rust that they ask for.
+//! The functions of the archive, linked or through the driver, with Rust's
+//! types.
 
 #[cfg(target_arch = "x86_64")]
 mod sys;
@@ -27,8 +27,8 @@ pub(crate) struct Fields<'a> {
     pub payload: &'a [u8],
 }
 
-/// The frame that the archive has written at the start of a buffer: 4 bytes,
-/// of which the last two say how long the body is that follows.
+/// The frame that the archive has written at the start of a buffer: 4 bytes, of
+/// which the last two give the length of the body that follows.
 pub(crate) fn frame_in(buffer: &[u8]) -> &[u8] {
     &buffer[..4 + usize::from(u16::from_be_bytes([buffer[2], buffer[3]]))]
 }

@@ -1,10 +1,10 @@
-//! The archive linked, on x86-64. All that is unsafe is here.
+//! The archive as it is linked on x86-64. All unsafe code is here.
 //!
-//! `include/cavernlull.h` asks of a caller: lent memory is a pointer and a
+//! `include/cavernlull.h` asks this of a caller: lent memory is a pointer and a
 //! length, or a pointer where the length is fixed; no pointer is null; and
 //! what is lent to be changed shares no byte with anything else that is lent
-//! in the same call. References and slices of Rust are just so, of no bytes
-//! too. No function keeps a pointer.
+//! in the same call. Rust's references and slices, empty ones included, are
+//! like that. No function keeps a pointer.
 
 #![allow(unsafe_code)]
 

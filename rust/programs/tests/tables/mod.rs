@@ -6,7 +6,7 @@ use reference::{call, write_request, Fields, Place, HASH_BYTES, REPLY_ROOM, SLOT
 /// The largest table, of 64,320 bytes.
 pub const LARGEST: usize = 15 * SLOT_BYTES;
 
-/// What one slot is to say of itself in the listing.
+/// What the listing is to say of one slot.
 #[derive(Clone, Copy, Debug)]
 pub struct Said {
     pub place: Place,
@@ -15,8 +15,8 @@ pub struct Said {
     pub length: u16,
 }
 
-/// A slot that is well formed if the numbers are allowed, with ten bytes
-/// `handle` as its handle.
+/// A slot with these numbers, which is well formed if they are allowed, under a
+/// handle of ten bytes `handle`.
 pub fn slot(handle: u8, said: Said) -> Vec<u8> {
     let mut slot = vec![0; SLOT_BYTES];
     slot[0] = (said.place as u8) << 6 | said.hashes << 2;
@@ -36,7 +36,7 @@ pub fn empty() -> Vec<u8> {
     vec![0; SLOT_BYTES]
 }
 
-/// A slot with a right in it, under ten bytes `handle`.
+/// A slot with a right in it, under a handle of ten bytes `handle`.
 pub fn right(place: Place, handle: u8, hashes: u8, count: u16, length: u16) -> Vec<u8> {
     slot(
         handle,
@@ -49,7 +49,7 @@ pub fn right(place: Place, handle: u8, hashes: u8, count: u16, length: u16) -> V
     )
 }
 
-/// A slot reserved for a length, under ten bytes `handle`.
+/// A slot reserved for a length, under a handle of ten bytes `handle`.
 pub fn reserved(handle: u8, length: u16) -> Vec<u8> {
     right(Place::Reserved, handle, 0, 0, length)
 }
@@ -64,7 +64,7 @@ pub fn ask(table: &mut [u8], kind: u8, fields: &Fields<'_>) -> u8 {
     reply[1]
 }
 
-/// Fifteen slots with records of every place among them, made by requests:
+/// Fifteen slots, with records in every place among them, made by requests:
 /// setups, installations, lendings, and slots cleared again.
 pub fn by_requests() -> Vec<u8> {
     let mut table = vec![0; LARGEST];
@@ -108,7 +108,7 @@ fn number(rng: &mut Rng, most: usize) -> u16 {
     rng.below(bound) as u16
 }
 
-/// A well-formed slot under ten bytes `handle`, at random.
+/// A well-formed slot at random, under a handle of ten bytes `handle`.
 fn any_slot(rng: &mut Rng, handle: u8) -> Vec<u8> {
     let place = [Place::Reserved, Place::Enabled, Place::Disabled];
     let length = 1 + number(rng, 4095);

@@ -1,6 +1,6 @@
 //! What the tests share: frames written by hand, and requests made at random.
 
-#![allow(dead_code)] // no single test file needs all of it
+#![allow(dead_code)] // no test file uses all of it
 
 use random::Rng;
 use reference::{Fields, Handle, Key, HASH_BYTES, REPLY_ROOM, SLOT_BYTES};
@@ -100,8 +100,8 @@ impl Asker {
         fields
     }
 
-    /// A frame that is mostly a request, more often of the kinds that a right
-    /// goes through, and now and then spoilt.
+    /// A frame: mostly a request, more often of the kinds that a right goes
+    /// through, and now and then spoilt.
     pub fn frame(&self, rng: &mut Rng) -> Vec<u8> {
         let kind = rng.pick(&[1, 1, 1, 2, 2, 2, 2, 3, 4, 4, 5, 5, 6, 7, 8, 8, 9]);
         let fields = self.fields(rng, kind);
@@ -136,7 +136,7 @@ fn spoil(rng: &mut Rng, frame: &mut Vec<u8>) {
     }
 }
 
-/// A frame of version 1, put together apart from the library.
+/// A frame of version 1, put together without the library.
 pub fn request_bytes(kind: u8, second: u8, body: &[u8]) -> Vec<u8> {
     let mut frame = vec![0x20 + kind, second];
     frame.extend((body.len() as u16).to_be_bytes());
@@ -144,7 +144,7 @@ pub fn request_bytes(kind: u8, second: u8, body: &[u8]) -> Vec<u8> {
     frame
 }
 
-/// The body of a request, put together apart from the library.
+/// The body of a request, put together without the library.
 pub fn body_bytes(kind: u8, fields: &OwnFields) -> Vec<u8> {
     let hash_count = (fields.hashes.len() / HASH_BYTES) as u8;
     let handle = fields.handle.as_slice();
@@ -184,7 +184,7 @@ pub struct Given {
     pub reply: Vec<u8>,
 }
 
-/// Calls the agent with a buffer of `FILLER` and sees that nothing but the
+/// Calls the agent with a buffer of `FILLER`, and asserts that nothing but the
 /// reply was written to it.
 pub fn call(table: &mut [u8], frame: &[u8]) -> Given {
     let mut buffer = vec![FILLER; REPLY_ROOM + 3];
@@ -201,7 +201,7 @@ pub fn call(table: &mut [u8], frame: &[u8]) -> Given {
     }
 }
 
-/// Calls the agent and expects this status.
+/// Calls the agent and asserts that it gives this status.
 pub fn call_for(status: u8, table: &mut [u8], kind: u8, fields: &OwnFields) -> Vec<u8> {
     let given = call(table, &request_bytes(kind, 0x80, &body_bytes(kind, fields)));
     assert_eq!(given.number, 0);

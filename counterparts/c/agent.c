@@ -1,5 +1,6 @@
-/* The card agent of document 01 in C, to measure the proved one against. It is written for speed, as a C programmer would
- * write it: zero checks that become vector code, memcmp for handles and hashes, memcpy and memset for the rest.
+/* The card agent (docs/PROFILE.md) as a practised C programmer would write it for speed: zero checks that become vector code,
+ * memcmp for handles and hashes, memcpy and memset for the rest. It is the bench's yardstick, and what the fuzz target
+ * compares the proved agent with. Nothing about it is proved.
  *
  * It is compiled once for each compiler and optimisation level; AGENT names the function.
  */
@@ -10,7 +11,7 @@
 #define true 1
 #define false 0
 
-/* As <string.h> has them: the compiler knows them, and no header of a machine is needed. */
+/* Declared here as <string.h> declares them, so that no header of any machine is needed. */
 int memcmp(const void *a, const void *b, size_t length);
 void *memcpy(void *restrict to, const void *restrict from, size_t length);
 void *memset(void *to, int byte, size_t length);
@@ -58,7 +59,7 @@ static bool under(const uint8_t *s, const uint8_t *handle) {
     return place_of(s) != EMPTY && memcmp(s + AT_HANDLE, handle, HANDLE) == 0;
 }
 
-/* The first slot at or behind one under a handle; the end where there is none. */
+/* The first slot under a handle, from slot `s` on; `end` where there is none. */
 static uint8_t *find(uint8_t *s, const uint8_t *end, const uint8_t *handle) {
     while (s < end && !under(s, handle)) s += SLOT;
     return s;
@@ -114,7 +115,7 @@ static size_t put_right(uint8_t *body, const uint8_t *s) {
     return 19 + hashes + length;
 }
 
-/* ---- what each kind does: a status, and at success how long the body is that it wrote */
+/* ---- what each kind does: it gives a status and, at success, sets the length of the body that it wrote */
 struct call {
     uint8_t *table, *end, *reply;
     const uint8_t *body;

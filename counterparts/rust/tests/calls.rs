@@ -1,11 +1,12 @@
-//! What is measured does what is measured: the counterpart gives the number,
+//! The counterpart does the work that it is measured for: it gives the number,
 //! the reply buffer and the table that the reference gives.
 
 use compare::frames::Asker;
 use compare::tables::{blank, damaged, reply_buffer};
 use random::Rng;
 
-/// The calls of one sequence, from a blank table on, and of all sequences.
+/// How many calls there are in one sequence, which starts from a blank table,
+/// and in all sequences.
 const SEQUENCE: usize = 160;
 const CALLS: usize = 100_000;
 
@@ -30,7 +31,7 @@ fn random_calls_agree_with_the_reference() {
     }
 }
 
-/// Makes a call by both, and gives the number.
+/// Has both make a call, and gives the number.
 fn call(rng: &mut Rng, asker: &Asker, table: &mut [u8]) -> usize {
     let frame = asker.frame(rng);
     let mut reply = reply_buffer(rng);

@@ -1,16 +1,16 @@
 //! Slots, and when a table of them is well formed.
 
-/// The bytes of a slot, a handle, a hash, and the most payload.
+/// Sizes in bytes: a slot, a handle, a hash, and the longest payload.
 pub const SLOT: usize = 4288;
 pub const HANDLE: usize = 10;
 pub const HASH: usize = 20;
 pub const PAYLOAD: usize = 4096;
 
-/// The most slots and hashes.
+/// The most slots of a table, and the most hashes of a slot.
 pub const SLOTS: usize = 15;
 pub const HASHES: usize = 8;
 
-/// Where the parts of a slot begin.
+/// The offsets of a slot's parts.
 pub const AT_KEY: usize = 11;
 pub const AT_COUNT: usize = 27;
 pub const AT_LENGTH: usize = 29;
@@ -18,19 +18,19 @@ pub const AT_HASHES: usize = 31;
 pub const AT_ZERO: usize = 191;
 pub const AT_PAYLOAD: usize = 192;
 
-/// Places.
+/// The places of a record.
 pub const EMPTY: u8 = 0;
 pub const RESERVED: u8 = 1;
 pub const ENABLED: u8 = 2;
 pub const DISABLED: u8 = 3;
 
-/// How many bytes are looked at between two tests.
+/// How many bytes are read between two tests.
 const BLOCK: usize = 512;
 
 pub type Slot = [u8; SLOT];
 pub type Handle = [u8; HANDLE];
 
-/// The slots of a table of 1 to 15 whole ones.
+/// The slots of a table, if it is 1 to 15 whole slots.
 pub fn whole(table: &mut [u8]) -> Option<&mut [Slot]> {
     let (slots, rest) = table.as_chunks_mut::<SLOT>();
     (rest.is_empty() && (1..=SLOTS).contains(&slots.len())).then_some(slots)
@@ -52,7 +52,7 @@ pub fn handle(s: &Slot) -> &Handle {
     s[1..].first_chunk().expect("a slot is longer")
 }
 
-/// Whether a table's slots are well formed, and no two have one handle.
+/// Whether a table's slots are well formed, and no two have the same handle.
 pub fn well(slots: &[Slot]) -> bool {
     slots.iter().all(well_slot) && distinct(slots)
 }

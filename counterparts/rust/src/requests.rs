@@ -15,7 +15,7 @@ pub enum Status {
     TwoRecords = 8,
 }
 
-/// Head and body of what is a frame.
+/// The head and the body of a frame, if the bytes are one.
 pub fn split(frame: &[u8]) -> Option<(&[u8; 4], &[u8])> {
     let (head, body) = frame.split_first_chunk::<4>()?;
     (body.len() == usize::from(u16::from_be_bytes([head[2], head[3]]))).then_some((head, body))

@@ -1,8 +1,8 @@
-//! The card agent of document 01 in Rust, to measure the proved one against.
+//! The card agent (docs/PROFILE.md) as a practised Rust programmer would write
+//! it for speed. It is a yardstick of the bench. Nothing about it is proved.
 //!
-//! It is written for speed, as a Rust programmer would write it: slots are
-//! arrays, so that nothing is checked again at run time; zero checks become
-//! vector code; handles and hashes are compared as arrays.
+//! Slots are arrays, so that nothing is checked again at run time; zero checks
+//! become vector code; handles and hashes are compared as arrays.
 
 mod requests;
 mod rights;
@@ -13,7 +13,7 @@ use requests::Status;
 /// The shortest reply buffer.
 const REPLY: usize = 4279;
 
-/// One call: the number, with the reply and the table as document 01 has them.
+/// One call: gives the number, writes the reply and changes the table.
 pub fn call(table: &mut [u8], frame: &[u8], reply: &mut [u8]) -> u16 {
     let Some(reply) = reply.first_chunk_mut::<REPLY>() else {
         return 101;
@@ -38,14 +38,15 @@ pub fn call(table: &mut [u8], frame: &[u8], reply: &mut [u8]) -> u16 {
     0
 }
 
-/// What a request gives: the length of its reply's body, or a status.
+/// The outcome of a request: the length of its reply's body, or a status.
 type Answer = Result<usize, Status>;
 
-/// The same under C's calling convention.
+/// The same call under C's calling convention.
 ///
 /// # Safety
 ///
-/// Each pointer and length are of memory that the call may use as it does.
+/// Each pointer and its length must describe memory that the call may use:
+/// `table` and `reply` to read and write, `frame` to read.
 #[no_mangle]
 pub unsafe extern "C" fn rust_call(
     table: *mut u8,
@@ -55,7 +56,7 @@ pub unsafe extern "C" fn rust_call(
     reply: *mut u8,
     reply_length: usize,
 ) -> u16 {
-    // SAFETY: what the caller promises.
+    // SAFETY: the caller promises it.
     let (table, frame, reply) = unsafe {
         (
             std::slice::from_raw_parts_mut(table, table_length),

@@ -8,11 +8,11 @@ use crate::slots::{
 use crate::slots::{DISABLED, EMPTY, ENABLED, RESERVED};
 use crate::{Answer, REPLY};
 
-/// A reply buffer as far as a reply can reach.
+/// The part of a reply buffer that a reply can take.
 type Reply = [u8; REPLY];
 
-/// What a request that passed its tests does; its reply's body is in the
-/// buffer, behind the head.
+/// Carries out a request that passed its tests, and writes its reply's body
+/// into the buffer, after the head.
 pub fn serve(slots: &mut [Slot], kind: u8, body: &[u8], reply: &mut Reply) -> Answer {
     match kind {
         1 => return set_up(slots, body),
