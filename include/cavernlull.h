@@ -35,7 +35,7 @@ enum {
     CAVERNLULL_KEY_BYTES = 16,
     CAVERNLULL_HASH_BYTES = 20,
     CAVERNLULL_MOST_HASHES = 8,
-    CAVERNLULL_LISTING_ROOM = 406 /* the longest listing */
+    CAVERNLULL_LISTING_ROOM = 406 /* room for every listing */
 };
 
 /* The numbers that functions return. With every number but 0, all lent memory stays as it was. */
