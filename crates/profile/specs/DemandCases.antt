@@ -1,4 +1,4 @@
--- The words of demand 3 in worked cases, with what they exclude: records that agree, what rights hold, calls by which a key goes out, returns, and tables
+-- The words of PROFILE 8.3 in worked cases, with what they exclude: records that agree, what rights hold, calls by which a key goes out, returns, and tables
 -- that differ in keys alone.
 use mathlib.Core.Path.{_≡_}
 use mathlib.Core.List.{List, [], _∷_, _++_, map}
