@@ -12,8 +12,8 @@ use Rattle.profile.specs.Bytes.{Bytes, if_then_else_, same, over}
 use Rattle.profile.specs.Slot.{Right, Entry, reserved, enabled, disabled, Slot, empty, taken, inUse, distinct}
 use Rattle.profile.specs.Table.{slotsOf}
 use Rattle.profile.specs.Frame.{kindNumber, frame}
-use Rattle.profile.specs.Request.{setup, list, Read, asks, refused, noFrame, readRequest}
-use Rattle.profile.specs.Agent.{Given, handles, Found, absent, one, next, find, Answer, deny, done, act, lowestEmpty, replyFrame, Call, refuse, replied, obey, onBytes, agent}
+use Rattle.profile.specs.Request.{setup, Read, asks, refused, noFrame, readRequest}
+use Rattle.profile.specs.Agent.{Given, Found, absent, one, next, find, Answer, deny, done, act, lowestEmpty, replyFrame, Call, refuse, replied, obey, onBytes, agent}
 use Rattle.profile.specs.Laws.{Apart, Refuses, FoundIs, SetsLowest, is-empty}
 use Rattle.profile.proofs.Logic.{both, and-parts, not-true, same-refl, split}
 use Rattle.profile.proofs.Numbers.{by-agent}

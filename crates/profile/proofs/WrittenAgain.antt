@@ -82,7 +82,8 @@ back (cancel h) z = refl
 back (list limit q) z = ap {B = Request} (list limit) (cut-again q z)
 back (info h) z = refl
 
-arrays-with : (h k key : Bytes) (room : ℕ) (c : Count) (limit : ℕ) (hashes payload : Bytes) → length h ≡ 10 → length k ≡ 10 → length key ≡ 16 → Arrays (fieldsWith h k key room c limit hashes payload)
+arrays-with : (h k key : Bytes) (room : ℕ) (c : Count) (limit : ℕ) (hashes payload : Bytes)
+    → length h ≡ 10 → length k ≡ 10 → length key ≡ 16 → Arrays (fieldsWith h k key room c limit hashes payload)
 arrays-with h k key room c limit hashes payload a b d = record { handle-10 = a; new-10 = b; key-16 = d }
 
 arrays : (q : Request) → RequestFits q → Arrays (fieldsIn q)

@@ -73,7 +73,8 @@ pub record Hold : Type 0 where
   pub sent : map (λ p. p .right) (installations exchanged) ≡ plain ∷ plain ∷ []
   pub named : map (λ p. p .handle) (installations exchanged) ≡ H1 ∷ H1 ∷ []
   pub behind : map (λ p. p .later) (installations exchanged) ≡ (asking (rek H1 H2) 0 ∷ later) ∷ drop 1 later ∷ []
-  pub last-counts : lastCount H1 false 7 (asking (rek H1 H2) 0 ∷ later) ∷ lastCount H1 false 7 (drop 1 later) ∷ lastCount H3 true 7 later ∷ lastCount H2 false 7 [] ∷ [] ≡ 2 ∷ 7 ∷ 2 ∷ 7 ∷ []
+  pub last-counts : lastCount H1 false 7 (asking (rek H1 H2) 0 ∷ later) ∷ lastCount H1 false 7 (drop 1 later) ∷ lastCount H3 true 7 later ∷ lastCount H2 false 7 [] ∷ []
+      ≡ 2 ∷ 7 ∷ 2 ∷ 7 ∷ []
   -- a return that is sent again gives no count; nor does one under the handle of a right that is gone
   pub sent-again : lastCount H2 true 7 (take 4 later) ≡ 3
   pub no-longer : lastCount H1 true 7 (asking (remove H1) 0 ∷ asking (enable H1 3) 0 ∷ []) ≡ 7

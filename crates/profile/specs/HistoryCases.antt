@@ -39,7 +39,11 @@ pub record Case : Type 0 where
 -- PROFILE 8.2: what each kind tells
 unfoldable pub tellings : List Case
 tellings =
-    record { request = setup H1-last 6; status = 0; after = record { setups = open-setup H1-last 6 ∷ open-setup H3 5 ∷ open-setup H4 9 ∷ []; rights = forUse H1 plain ∷ lent H2 other ∷ gone plain ∷ [] } }
+    record {
+      request = setup H1-last 6;
+      status = 0;
+      after = record { setups = open-setup H1-last 6 ∷ open-setup H3 5 ∷ open-setup H4 9 ∷ []; rights = forUse H1 plain ∷ lent H2 other ∷ gone plain ∷ [] };
+    }
     ∷ record { request = install H3 plain; status = 0; after = record { setups = open-setup H4 9 ∷ []; rights = forUse H1 plain ∷ lent H2 other ∷ gone plain ∷ forUse H3 plain ∷ [] } }
     ∷ record { request = install H4 other; status = 0; after = record { setups = open-setup H3 5 ∷ []; rights = forUse H1 plain ∷ lent H2 other ∷ gone plain ∷ forUse H4 other ∷ [] } }
     ∷ record { request = retrieve H1 H1-last; status = 0; after = record { setups = open-setup H3 5 ∷ open-setup H4 9 ∷ []; rights = lent H1-last plain ∷ lent H2 other ∷ gone plain ∷ [] } }
@@ -138,7 +142,8 @@ pub record Hold : Type 0 where
   pub by-number : map (λ i. rightNumber i ledger) (0 ∷ 1 ∷ 2 ∷ []) ≡ some (forUse H2 counted3) ∷ some (gone plain) ∷ none ∷ []
   -- what stands under a handle, by the ledger and by the slots
   pub under-run : map (λ h. underLedger h ledger) (H1 ∷ H2 ∷ H3 ∷ H4 ∷ []) ≡ [] ∷ (enabled counted3 ∷ []) ∷ [] ∷ (reserved 9 ∷ []) ∷ []
-  pub under-ledger : map (λ h. underLedger h before) (H1 ∷ H2 ∷ H3 ∷ H4 ∷ H1-last ∷ []) ≡ (enabled plain ∷ []) ∷ (disabled other ∷ []) ∷ (reserved 5 ∷ []) ∷ (reserved 9 ∷ []) ∷ [] ∷ []
+  pub under-ledger : map (λ h. underLedger h before) (H1 ∷ H2 ∷ H3 ∷ H4 ∷ H1-last ∷ [])
+      ≡ (enabled plain ∷ []) ∷ (disabled other ∷ []) ∷ (reserved 5 ∷ []) ∷ (reserved 9 ∷ []) ∷ [] ∷ []
   pub under-slots : map (λ h. underSlots h (taken H1 (enabled plain) ∷ empty ∷ taken H2 (disabled other) ∷ taken H3 (reserved 5) ∷ taken H1 (reserved 9) ∷ [])) (H1 ∷ H2 ∷ H3 ∷ H1-last ∷ [])
       ≡ (enabled plain ∷ reserved 9 ∷ []) ∷ (disabled other ∷ []) ∷ (reserved 5 ∷ []) ∷ [] ∷ []
   -- PROFILE 8.3: slots and ledger agree: not where a record is missing, and not where two stand under one handle

@@ -7,7 +7,8 @@ use mathlib.Core.Bool.{Bool, true, false}
 use lib.ListN.{take, replicate}
 use Rattle.profile.specs.Bytes.{Bytes, joined}
 use Rattle.profile.specs.Frame.{Kind, Setup, Install, Retrieve, Rek, Enable, Remove, Cancel, List', Info, versionHolds, kindNumber, hashCountAt18, Refusal, integrity, parameter, unsupported}
-use Rattle.profile.specs.Request.{Request, setup, install, retrieve, rek, enable, remove, cancel, list, info, Read, asks, refused, noFrame, verdict, zeroBits, bodyFits, readRequest, writeRequest}
+use Rattle.profile.specs.Request.{Request, setup, install, retrieve, rek, enable, remove, cancel, list, info}
+use Rattle.profile.specs.Request.{Read, asks, refused, noFrame, verdict, zeroBits, bodyFits, readRequest, writeRequest}
 use Rattle.profile.specs.CaseBytes.{hex, sized, h, n, key, p, q, eight, eightHashes}
 
 -- a frame, and what it is read as

@@ -149,7 +149,8 @@ pub record Hold : Type 0 where
   pub table-formed : map (λ c. wellTable (c .0)) tables ≡ map (λ c. c .1) tables
   pub apart : map (λ c. distinct (c .0)) handles ≡ map (λ c. c .1) handles
   -- a handle in use, whatever the place of its record
-  pub in-use : map (λ h. inUse h (taken H1 (reserved 5) ∷ empty ∷ taken H2 (enabled plain) ∷ taken H3 (disabled plain) ∷ [])) (H1 ∷ H2 ∷ H3 ∷ H1-last ∷ H0 ∷ []) ≡ true ∷ true ∷ true ∷ false ∷ false ∷ []
+  pub in-use : map (λ h. inUse h (taken H1 (reserved 5) ∷ empty ∷ taken H2 (enabled plain) ∷ taken H3 (disabled plain) ∷ [])) (H1 ∷ H2 ∷ H3 ∷ H1-last ∷ H0 ∷ [])
+      ≡ true ∷ true ∷ true ∷ false ∷ false ∷ []
   -- a right with another count
   pub recounted : recount 3 plain ≡ record { key = K; count = 3; hashes = A ∷ []; payload = five }
   -- PROFILE 2.2, byte 0: place, hash count, spare bits
