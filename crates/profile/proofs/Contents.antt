@@ -1,4 +1,4 @@
--- Demand 3: right number i holds what installation number i sent, and the count last given to it. Of every history, whatever the agent does.
+-- PROFILE 8.3: right number i holds what installation number i sent, and the count last given to it. It holds of every history, whatever the agent does.
 use Prim.Native.Nat.{ℕ, zero, suc}
 use mathlib.Core.Path.{_≡_, refl, sym, ap, _∙_}
 use mathlib.Core.List.{List, [], _∷_, _++_, map, append-nil}

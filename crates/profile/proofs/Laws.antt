@@ -1,4 +1,4 @@
--- The laws of slots and setups hold: rules said in another way than their definitions say them.
+-- The laws of slots and setups hold (PROFILE 2.5, 4 and 5.1): rules said in another way than their definitions say them.
 use Prim.Native.Nat.{ℕ, zero, suc, _<_}
 use mathlib.Core.Path.{_≡_, refl, sym, ap, _∙_, subst}
 use mathlib.Core.List.{List, [], _∷_}
@@ -19,7 +19,7 @@ use Rattle.profile.proofs.Logic.{both, and-parts, not-true, same-refl, 
 use Rattle.profile.proofs.Numbers.{by-agent}
 use Rattle.profile.proofs.Steps.{acts}
 
--- ---- places in a list
+-- ---- items of a list
 pub not-there : {A : Type 0} {x : A} → Path (Option A) none (some x) → ⊥
 not-there {A} e = subst Some (sym e) tt
   where

@@ -1,4 +1,4 @@
--- Demand 3, record by record, from the agreement handle by handle.
+-- PROFILE 8.3, record by record, from the agreement handle by handle.
 use Prim.Native.Nat.{ℕ, zero, suc}
 use mathlib.Core.Path.{_≡_, refl, sym, ap, _∙_, subst}
 use mathlib.Core.Logic.{_⊎_, inl, inr}

@@ -1,4 +1,4 @@
--- A frame that reads as a request is written again, by the device's writer and from the fields read, to the same bytes, but for a verdict of 0 in kinds 8 and 9.
+-- PROFILE 6.4: a frame that reads as a request is written again, by the device's writer and from the fields read, to the same bytes, but for a verdict of 0 in kinds 8 and 9.
 use Prim.Native.Nat.{ℕ, zero, suc, _+_, _*_, _/_, _%_, _≤_}
 use mathlib.Core.Path.{_≡_, refl, sym, ap, _∙_}
 use mathlib.Core.List.{List, [], _∷_, append-nil}

@@ -72,7 +72,7 @@ pub record Hold : Type 0 where
   -- the installations that succeeded, and the count that the first of them, and one lent under H3, has at the end
   pub sent : map (λ p. p .right) (installations exchanged) ≡ plain ∷ plain ∷ []
   pub named : map (λ p. p .handle) (installations exchanged) ≡ H1 ∷ H1 ∷ []
-  pub behind : map (λ p. p .later) (installations exchanged) ≡ (asking (rek H1 H2) 0 ∷ later) ∷ drop 1 later ∷ []
+  pub after-each : map (λ p. p .later) (installations exchanged) ≡ (asking (rek H1 H2) 0 ∷ later) ∷ drop 1 later ∷ []
   pub last-counts : lastCount H1 false 7 (asking (rek H1 H2) 0 ∷ later) ∷ lastCount H1 false 7 (drop 1 later) ∷ lastCount H3 true 7 later ∷ lastCount H2 false 7 [] ∷ []
       ≡ 2 ∷ 7 ∷ 2 ∷ 7 ∷ []
   -- a return that is sent again gives no count; nor does one under the handle of a right that is gone
