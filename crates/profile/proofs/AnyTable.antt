@@ -1,4 +1,4 @@
--- Every call leaves a well-formed table well formed: not from a blank card alone, but from any.
+-- PROFILE 2.5: every call leaves a well-formed table well formed, not only one that began blank.
 use Prim.Native.Nat.{ℕ, suc, _%_, _≤_}
 use mathlib.Core.Path.{_≡_, refl, sym, ap, _∙_}
 use mathlib.Core.List.{List, [], _∷_, _++_, map}
@@ -45,7 +45,7 @@ count-under h [] = refl
 count-under h (empty ∷ t) = count-under h t
 count-under h (taken k e ∷ t) = one-more (same h k) e (underSlots h t) (times h t) (count-under h t)
 
--- a right in front of the setups behind it: nothing stands there under its handle
+-- a right before the setups that follow it: none of them has its handle
 past-setups : (a b c : List Entry) → length (a ++ (b ++ c)) ≤ 1 → a ++ (b ++ c) ≡ b ++ (a ++ c)
 past-setups [] b c o = refl
 past-setups (x ∷ a) [] c o = refl

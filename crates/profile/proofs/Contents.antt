@@ -1,4 +1,4 @@
--- Demand 3: right number i holds what installation number i sent, and the count last given to it. Of every history, whatever the agent does.
+-- PROFILE 8.3: right number i holds what installation number i sent, and the count last given to it. It holds of every history, whatever the agent does.
 use Prim.Native.Nat.{ℕ, zero, suc}
 use mathlib.Core.Path.{_≡_, refl, sym, ap, _∙_}
 use mathlib.Core.List.{List, [], _∷_, _++_, map, append-nil}
@@ -56,7 +56,8 @@ rights-then l (x ∷ xs) = go (eqb (x .status) 0) (x .request) (rights-then l xs
         history (if b then tell l q else l) xs .rights
         ≡ map (λ (o : Owned). if b then onward (turn q o) xs else onward o xs) (l .rights) ++ map since ((if b then installed q xs else []) ++ installations xs)
 
-    turned : (g : Owned → Owned) → map (λ (o : Owned). onward o xs) (map g (l .rights)) ++ map since (installations xs) ≡ map (λ (o : Owned). onward (g o) xs) (l .rights) ++ map since (installations xs)
+    turned : (g : Owned → Owned)
+        → map (λ (o : Owned). onward o xs) (map g (l .rights)) ++ map since (installations xs) ≡ map (λ (o : Owned). onward (g o) xs) (l .rights) ++ map since (installations xs)
     turned g = ap (λ (rs : List Owned). rs ++ map since (installations xs)) (map-twice (λ (o : Owned). onward o xs) g (l .rights))
 
     go : (b : Bool) (q : Request) → (history l xs .rights ≡ map (λ (o : Owned). onward o xs) (l .rights) ++ map since (installations xs))

@@ -1,4 +1,4 @@
--- The words of demand 3 mean in the worked cases what is said there, and exclude what is said there: computed.
+-- The words of PROFILE 8.3 mean in the worked cases what is said there, and exclude what is said there: computed.
 use Prim.Native.Nat.{ℕ, zero, suc, _≤_}
 use mathlib.Core.Path.{_≡_, refl, sym, ap}
 use mathlib.Core.List.{List, [], _∷_}
@@ -68,7 +68,7 @@ demands-hold =
       refused-return = refl;
       sent = refl;
       named = refl;
-      behind = refl;
+      after-each = refl;
       last-counts = refl;
       sent-again = refl;
       no-longer = refl;

@@ -1,4 +1,4 @@
--- The laws of slots and setups hold: rules said in another way than their definitions say them.
+-- The laws of slots and setups hold (PROFILE 2.5, 4 and 5.1): rules said in another way than their definitions say them.
 use Prim.Native.Nat.{ℕ, zero, suc, _<_}
 use mathlib.Core.Path.{_≡_, refl, sym, ap, _∙_, subst}
 use mathlib.Core.List.{List, [], _∷_}
@@ -12,14 +12,14 @@ use Rattle.profile.specs.Bytes.{Bytes, if_then_else_, same, over}
 use Rattle.profile.specs.Slot.{Right, Entry, reserved, enabled, disabled, Slot, empty, taken, inUse, distinct}
 use Rattle.profile.specs.Table.{slotsOf}
 use Rattle.profile.specs.Frame.{kindNumber, frame}
-use Rattle.profile.specs.Request.{setup, list, Read, asks, refused, noFrame, readRequest}
-use Rattle.profile.specs.Agent.{Given, handles, Found, absent, one, next, find, Answer, deny, done, act, lowestEmpty, replyFrame, Call, refuse, replied, obey, onBytes, agent}
+use Rattle.profile.specs.Request.{setup, Read, asks, refused, noFrame, readRequest}
+use Rattle.profile.specs.Agent.{Given, Found, absent, one, next, find, Answer, deny, done, act, lowestEmpty, replyFrame, Call, refuse, replied, obey, onBytes, agent}
 use Rattle.profile.specs.Laws.{Apart, Refuses, FoundIs, SetsLowest, is-empty}
 use Rattle.profile.proofs.Logic.{both, and-parts, not-true, same-refl, split}
 use Rattle.profile.proofs.Numbers.{by-agent}
 use Rattle.profile.proofs.Steps.{acts}
 
--- ---- places in a list
+-- ---- items of a list
 pub not-there : {A : Type 0} {x : A} → Path (Option A) none (some x) → ⊥
 not-there {A} e = subst Some (sym e) tt
   where

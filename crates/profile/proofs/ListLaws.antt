@@ -1,4 +1,4 @@
--- The laws of kind 8 hold: the handles listed are those asked for, in slot order, as many as the limit lets; and no other list meets them.
+-- The laws of kind 8 hold (PROFILE 5.8): the handles listed are those asked for, in slot order, as many as the limit lets; and no other list meets them.
 use Prim.Native.Nat.{ℕ, zero, suc, _+_, _*_, _/_, _≤_, _<_, min}
 use mathlib.Core.Path.{_≡_, refl, sym, ap, _∙_}
 use mathlib.Core.Logic.{inl, inr}
@@ -85,8 +85,8 @@ ordered-only q (is-empty o) = ordered-only q o
 
 -- ---- and its handles: those of enabled records asked for
 module _ {q : List Bytes} where
-  behind : {s : Slot} {t : List Slot} {h : Bytes} → Shown q t h → Shown q (s ∷ t) h
-  behind w = record { slot = suc (w .slot); right = w .right; stands = w .stands; asked = w .asked }
+  further : {s : Slot} {t : List Slot} {h : Bytes} → Shown q t h → Shown q (s ∷ t) h
+  further w = record { slot = suc (w .slot); right = w .right; stands = w .stands; asked = w .asked }
 
   shown-in : {t : List Slot} {hs : List Bytes} → InSlotOrder q t hs → (h : Bytes) → In h hs → Shown q t h
   shown-in no-slot h m = absurd (not-there (m .1))
@@ -94,11 +94,11 @@ module _ {q : List Bytes} where
     where
       go : {t : List Slot} (i : ℕ) → getElem? (k ∷ hs) i ≡ some h → (In h hs → Shown q t h) → Shown q (taken k (enabled r) ∷ t) h
       go zero p ih = record { slot = 0; right = r; stands = ap {B = Option Slot} (λ (x : Bytes). some (taken x (enabled r))) (Option·some-injective k h p); asked = a }
-      go (suc i) p ih = behind (ih (i, p))
-  shown-in (not-asked n o) h m = behind (shown-in o h m)
-  shown-in (is-lent o) h m = behind (shown-in o h m)
-  shown-in (is-reserved o) h m = behind (shown-in o h m)
-  shown-in (is-empty o) h m = behind (shown-in o h m)
+      go (suc i) p ih = further (ih (i, p))
+  shown-in (not-asked n o) h m = further (shown-in o h m)
+  shown-in (is-lent o) h m = further (shown-in o h m)
+  shown-in (is-reserved o) h m = further (shown-in o h m)
+  shown-in (is-empty o) h m = further (shown-in o h m)
 
   in-shown : {t : List Slot} {hs : List Bytes} → InSlotOrder q t hs → (h : Bytes) (r : Right) → AskedFor q r → (i : ℕ) → getElem? t i ≡ some (taken h (enabled r)) → In h hs
   unfolding IsEnabled

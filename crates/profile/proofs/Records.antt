@@ -1,8 +1,9 @@
--- Demand 3, record by record, from the agreement handle by handle.
+-- PROFILE 8.3, record by record, from the agreement handle by handle.
 use Prim.Native.Nat.{ℕ, zero, suc}
 use mathlib.Core.Path.{_≡_, refl, sym, ap, _∙_, subst}
 use mathlib.Core.Logic.{_⊎_, inl, inr}
-use mathlib.Core.List.{List, [], _∷_, map, List·Memᴰ, List·Memᴰ·head, List·Memᴰ·append-cases, List·Memᴰ·eq-of-singleton, List·Memᴰ·not-nil, Memᴰ·append-left, Memᴰ·append-right}
+use mathlib.Core.List.{List, [], _∷_, map}
+use mathlib.Core.List.{List·Memᴰ, List·Memᴰ·head, List·Memᴰ·append-cases, List·Memᴰ·eq-of-singleton, List·Memᴰ·not-nil, Memᴰ·append-left, Memᴰ·append-right}
 use mathlib.Core.Bool.{true}
 use mathlib.Core.Option.{Option, some, Option·some-injective}
 use lib.ListN.{getElem?}
@@ -29,7 +30,8 @@ module _ {A : Type 0} (f : A → List Entry) where
   gathered-from [] e m = absurd (List·Memᴰ·not-nil m)
   gathered-from (y ∷ xs) e m = go (List·Memᴰ·append-cases (f y) m) (gathered-from xs e)
     where
-      go : List·Memᴰ e (f y) ⊎ List·Memᴰ e (joined (map f xs)) → (List·Memᴰ e (joined (map f xs)) → (x : A) × In x xs × List·Memᴰ e (f x)) → (x : A) × In x (y ∷ xs) × List·Memᴰ e (f x)
+      go : List·Memᴰ e (f y) ⊎ List·Memᴰ e (joined (map f xs))
+          → (List·Memᴰ e (joined (map f xs)) → (x : A) × In x xs × List·Memᴰ e (f x)) → (x : A) × In x (y ∷ xs) × List·Memᴰ e (f x)
       go (inl m) ih = (y, (0, refl), m)
       go (inr m) ih =
           let r = ih m in

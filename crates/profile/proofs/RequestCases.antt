@@ -7,5 +7,6 @@ use Rattle.profile.specs.RequestCases
 use Rattle.profile.specs.Cases.{cases}
 
 pub requests-hold : RequestCases.Hold
-unfolding RequestCases.requests RequestCases.noFrames RequestCases.heads RequestCases.kinds RequestCases.lengths RequestCases.verdicts RequestCases.fieldTests RequestCases.cases readRequest writeRequest frame
+unfolding RequestCases.requests RequestCases.noFrames RequestCases.heads RequestCases.kinds RequestCases.lengths
+    RequestCases.verdicts RequestCases.fieldTests RequestCases.cases readRequest writeRequest frame
 requests-hold = record { lengths-fit = refl; verdict-bit = refl; zero-bits = refl; versions = refl; kind-bits = refl; hash-counts = refl; read = refl; write = refl }

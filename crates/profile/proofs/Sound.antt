@@ -1,4 +1,4 @@
--- Demand 3: from a blank card, whatever is asked, the table agrees with the history of the exchanges.
+-- PROFILE 8.3: from a blank card, whatever is asked, the table agrees with the history of the exchanges.
 use Prim.Native.Nat.{ℕ, zero, suc, _+_, _*_, _≤_}
 use mathlib.Core.Path.{_≡_, refl, sym, ap, _∙_}
 use mathlib.Core.Logic.{inl, inr}

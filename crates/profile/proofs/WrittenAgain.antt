@@ -1,8 +1,8 @@
--- A frame that reads as a request is written again, by the device's writer and from the fields read, to the same bytes, but for a verdict of 0 in kinds 8 and 9.
-use Prim.Native.Nat.{ℕ, zero, suc, _+_, _*_, _/_, _%_, _≤_}
+-- PROFILE 6.4: a frame that reads as a request is written again, by the device's writer and from the fields read, to the same bytes, but for a verdict of 0 in kinds 8 and 9.
+use Prim.Native.Nat.{ℕ, _+_, _*_, _/_, _%_, _≤_}
 use mathlib.Core.Path.{_≡_, refl, sym, ap, _∙_}
 use mathlib.Core.List.{List, [], _∷_, append-nil}
-use mathlib.Core.Option.{Option, none, some}
+use mathlib.Core.Option.{some}
 use mathlib.Core.Bool.{Bool, true, false, _&&_}
 use native.Mathlib.Omega.{arith}
 use lib.Dec.{eqb, leb}
@@ -18,7 +18,7 @@ use Rattle.profile.specs.Theorems.{WrittenAgain}
 use Rattle.profile.proofs.Logic.{both, and-parts, eqb-true, leb-le, leb-true, ltb-false, from-1-to, positive}
 use Rattle.profile.proofs.Strings.{length-zeros, length-each, pieces-joined}
 use Rattle.profile.proofs.Frames.{Reads, reads}
-use Rattle.profile.proofs.Requests.{read-fits, write-reads}
+use Rattle.profile.proofs.Requests.{read-fits, kind-number, write-reads}
 
 -- ---- the fields of a request, written
 kindFor : Request → Kind
@@ -82,7 +82,8 @@ back (cancel h) z = refl
 back (list limit q) z = ap {B = Request} (list limit) (cut-again q z)
 back (info h) z = refl
 
-arrays-with : (h k key : Bytes) (room : ℕ) (c : Count) (limit : ℕ) (hashes payload : Bytes) → length h ≡ 10 → length k ≡ 10 → length key ≡ 16 → Arrays (fieldsWith h k key room c limit hashes payload)
+arrays-with : (h k key : Bytes) (room : ℕ) (c : Count) (limit : ℕ) (hashes payload : Bytes)
+    → length h ≡ 10 → length k ≡ 10 → length key ≡ 16 → Arrays (fieldsWith h k key room c limit hashes payload)
 arrays-with h k key room c limit hashes payload a b d = record { handle-10 = a; new-10 = b; key-16 = d }
 
 arrays : (q : Request) → RequestFits q → Arrays (fieldsIn q)
@@ -99,22 +100,15 @@ arrays (info h) z = arrays-with _ _ _ _ _ _ _ _ z (length-zeros 10) (length-zero
 -- ---- the verdict
 -- kinds 1 to 7 ask for it
 asks-verdict : (n : ℕ) (k : Kind) → kindOf n ≡ some k → n ≤ 7 → guarded k ≡ true
-asks-verdict n k e h = rw e at (each n h)
-  where
-    Guarded : Option Kind → Type 0
-    Guarded none = Unit {0}
-    Guarded (some k) = guarded k ≡ true
-
-    each : (n : ℕ) → n ≤ 7 → Guarded (kindOf n)
-    each zero h = tt
-    each (suc zero) h = refl
-    each (suc (suc zero)) h = refl
-    each (suc (suc (suc zero))) h = refl
-    each (suc (suc (suc (suc zero)))) h = refl
-    each (suc (suc (suc (suc (suc zero))))) h = refl
-    each (suc (suc (suc (suc (suc (suc zero)))))) h = refl
-    each (suc (suc (suc (suc (suc (suc (suc zero))))))) h = refl
-    each (suc (suc (suc (suc (suc (suc (suc (suc n)))))))) h = absurd (omega (arith, h))
+asks-verdict n Setup e h = refl
+asks-verdict n Install e h = refl
+asks-verdict n Retrieve e h = refl
+asks-verdict n Rek e h = refl
+asks-verdict n Enable e h = refl
+asks-verdict n Remove e h = refl
+asks-verdict n Cancel e h = refl
+asks-verdict n List' e h = absurd (omega (arith, h, kind-number n List' e []))
+asks-verdict n Info e h = absurd (omega (arith, h, kind-number n Info e []))
 
 module _ (f : Bytes) (q : Request) (y : Bytes256 f) (r : Reads f q) where
   long : 4 ≤ length f

@@ -1,4 +1,4 @@
--- Document 01, the rules kind by kind, in worked cases on slots told without their bytes: each test, and each pair of tests of which both apply.
+-- PROFILE 5, kind by kind, in worked cases on slots told without their bytes: each test, and each pair of tests of which both apply.
 use Prim.Native.Nat.{ℕ}
 use mathlib.Core.Path.{_≡_}
 use mathlib.Core.List.{List, [], _∷_, _++_, map}
@@ -43,7 +43,7 @@ zeroKey = record { key = replicate 16 0x00; count = 7; hashes = []; payload = fi
 abbrev pub six : Right
 six = record { key = K; count = 7; hashes = []; payload = hex "A1 A2 A3 A4 A5 A6" }
 
--- ---- slots: H1 reserved, H2 enabled, H3 disabled; an empty one behind them; and H1 in more than one slot
+-- ---- slots: H1 reserved, H2 enabled, H3 disabled; an empty one after them; and H1 in more than one slot
 abbrev pub full : List Slot
 full = taken H1 (reserved 5) ∷ taken H2 (enabled both) ∷ taken H3 (disabled plain) ∷ []
 
@@ -56,37 +56,37 @@ twice = taken H1 (reserved 5) ∷ empty ∷ taken H1 (enabled plain) ∷ taken H
 abbrev pub thrice : List Slot
 thrice = taken H1 (disabled plain) ∷ taken H1 (enabled both) ∷ taken H1 (enabled plain) ∷ []
 
--- ---- kind 1
+-- ---- PROFILE 5.1
 unfoldable pub setups : List Case
 setups =
-    -- "length 0, 2": before a handle in use, and a full table
+    -- length 0: before a handle in use, and a full table
     denies spare (setup H1 0) parameter
     ∷ denies full (setup H4 0) parameter
-    -- "handle in any non-empty slot, 5": before a length over 4,096, and a full table
+    -- a handle in use, whatever the place of its record: before a length over 4,096, and a full table
     ∷ denies spare (setup H1 5) duplicate
     ∷ denies spare (setup H2 5) duplicate
     ∷ denies spare (setup H3 5) duplicate
     ∷ denies spare (setup H3 4097) duplicate
     ∷ denies full (setup H3 5) duplicate
-    -- "length over 4,096 or no empty slot, 7"
+    -- a length over 4,096, and a full table
     ∷ denies spare (setup H4 4097) noSpace
     ∷ denies spare (setup H4 65535) noSpace
     ∷ denies full (setup H4 5) noSpace
     ∷ denies full (setup H4 4097) noSpace
-    -- "The lowest empty slot becomes reserved."
+    -- the lowest empty slot is reserved
     ∷ gives spare (setup H4 4096) nothing (full ++ (taken H4 (reserved 4096) ∷ []))
     ∷ gives spare (setup H1-last 1) nothing (full ++ (taken H1-last (reserved 1) ∷ []))
     ∷ gives (empty ∷ empty ∷ full) (setup H4 1) nothing (taken H4 (reserved 1) ∷ empty ∷ full)
     ∷ gives (taken H2 (enabled both) ∷ empty ∷ taken H3 (disabled plain) ∷ empty ∷ []) (setup H4 1) nothing (taken H2 (enabled both) ∷ taken H4 (reserved 1) ∷ taken H3 (disabled plain) ∷ empty ∷ [])
     ∷ []
 
--- ---- kind 2
+-- ---- PROFILE 5.2
 unfoldable pub installations : List Case
 installations =
-    -- status 8 "just before 4", and before 6 and 7
+    -- status 8 comes before 4, 6 and 7
     denies twice (install H1 plain) twoRecords
     ∷ denies thrice (install H1 plain) twoRecords
-    -- "handle absent, 4; record not reserved, 6; payload longer than reserved, 7"
+    -- an absent handle; a record that is not reserved; a payload longer than its room
     ∷ denies full (install H4 plain) notFound
     ∷ denies (empty ∷ []) (install H1 plain) notFound
     ∷ denies full (install H2 plain) unexpected
@@ -96,12 +96,12 @@ installations =
     ∷ gives (empty ∷ full) (install H1 both) nothing (empty ∷ taken H1 (enabled both) ∷ taken H2 (enabled both) ∷ taken H3 (disabled plain) ∷ [])
     ∷ []
 
--- ---- kinds 3 and 4
+-- ---- PROFILE 5.3 and 5.4
 unfoldable pub lendings : List Case
 lendings =
     denies twice (retrieve H1 H4) twoRecords
     ∷ denies thrice (rek H1 H1) twoRecords
-    -- "absent, 4; not enabled, 6": before a new handle in use
+    -- an absent handle; a record that is not enabled: before a new handle in use
     ∷ denies full (retrieve H4 H1) notFound
     ∷ denies full (rek H4 H1) notFound
     ∷ denies full (retrieve H1 H2) unexpected
@@ -111,7 +111,7 @@ lendings =
     -- whatever its key
     ∷ denies (taken H1 (disabled zeroKey) ∷ []) (rek H1 H2) unexpected
     ∷ denies (taken H1 (disabled zeroKey) ∷ []) (retrieve H1 H2) unexpected
-    -- "new handle in any non-empty slot, its own included, 5"
+    -- a new handle in use, by another record or by the record itself
     ∷ denies full (retrieve H2 H1) duplicate
     ∷ denies full (rek H2 H1) duplicate
     ∷ denies full (retrieve H2 H2) duplicate
@@ -119,15 +119,15 @@ lendings =
     ∷ denies full (retrieve H2 H3) duplicate
     ∷ denies full (rek H2 H3) duplicate
     ∷ denies twice (rek H2 H1) duplicate
-    -- "The handle is overwritten, the record disabled, nothing else."
+    -- the record is disabled under the new handle, and nothing else changes
     ∷ gives full (retrieve H2 H4) (theRight both) (taken H1 (reserved 5) ∷ taken H4 (disabled both) ∷ taken H3 (disabled plain) ∷ [])
     ∷ gives full (rek H2 H4) (theKey L) (taken H1 (reserved 5) ∷ taken H4 (disabled both) ∷ taken H3 (disabled plain) ∷ [])
     ∷ []
 
--- ---- kinds 5, 6, 7 and 9
+-- ---- PROFILE 5.5, 5.6, 5.7 and 5.9
 unfoldable pub others : List Case
 others =
-    -- 5
+    -- 5.5
     denies twice (enable H1 3) twoRecords
     ∷ denies full (enable H4 3) notFound
     ∷ denies full (enable H1 3) unexpected
@@ -135,19 +135,19 @@ others =
     ∷ gives full (enable H3 3) nothing (taken H1 (reserved 5) ∷ taken H2 (enabled both) ∷ taken H3 (enabled (recount 3 plain)) ∷ [])
     ∷ gives full (enable H3 0) nothing (taken H1 (reserved 5) ∷ taken H2 (enabled both) ∷ taken H3 (enabled (record { key = K; count = 0; hashes = []; payload = five })) ∷ [])
     ∷ gives (taken H2 (disabled both) ∷ []) (enable H2 65535) nothing (taken H2 (enabled (record { key = L; count = 65535; hashes = A ∷ B ∷ []; payload = hex "BC" })) ∷ [])
-    -- 6
+    -- 5.6
     ∷ denies twice (remove H1) twoRecords
     ∷ denies full (remove H4) notFound
     ∷ denies full (remove H1) unexpected
     ∷ gives full (remove H2) nothing (taken H1 (reserved 5) ∷ empty ∷ taken H3 (disabled plain) ∷ [])
     ∷ gives full (remove H3) nothing (taken H1 (reserved 5) ∷ taken H2 (enabled both) ∷ empty ∷ [])
-    -- 7
+    -- 5.7
     ∷ denies twice (cancel H1) twoRecords
     ∷ denies full (cancel H4) notFound
     ∷ denies full (cancel H2) unexpected
     ∷ denies full (cancel H3) unexpected
     ∷ gives full (cancel H1) nothing (empty ∷ taken H2 (enabled both) ∷ taken H3 (disabled plain) ∷ [])
-    -- 9
+    -- 5.9
     ∷ denies twice (info H1) twoRecords
     ∷ denies full (info H4) notFound
     ∷ denies full (info H1) unexpected
@@ -156,7 +156,7 @@ others =
     ∷ gives twice (info H2) (counted 258 (hex "BC")) twice
     ∷ []
 
--- ---- kind 8: empty, H1 with no hash, reserved, H3 with A and B, disabled with A and B, H2 with B
+-- ---- PROFILE 5.8: empty, H1 with no hash, reserved, H3 with A and B, disabled with A and B, H2 with B
 abbrev pub among : List Slot
 among =
     empty
@@ -173,7 +173,7 @@ lists limit q more hs = gives among (list limit q) (handles more hs) among
 
 unfoldable pub listings : List Case
 listings =
-    -- "in slot order and each once, the handles of enabled records that have some hash of the request; with hash count 0, of all enabled records"
+    -- the enabled records with one of the hashes sent, or all of them where none is sent, in the order of the slots and each once
     lists 0 [] false (H1 ∷ H3 ∷ H2 ∷ [])
     ∷ lists 0 (A ∷ []) false (H3 ∷ [])
     ∷ lists 0 (B ∷ []) false (H3 ∷ H2 ∷ [])
@@ -187,7 +187,7 @@ listings =
     ∷ lists 0 (pieces 20 8 eight) false []
     -- the last of eight hashes
     ∷ gives (taken H1 (enabled full8) ∷ []) (list 0 (A ∷ counting 0x9C 20 ∷ [])) (handles false (H1 ∷ [])) (taken H1 (enabled full8) ∷ [])
-    -- "Limit 0 is none; otherwise the first whole handles that fit in limit bytes. More is 1 exactly if a handle was left off."
+    -- as many whole handles as the limit lets through, and whether any was left off
     ∷ lists 1 [] true []
     ∷ lists 9 [] true []
     ∷ lists 10 [] true (H1 ∷ [])
@@ -225,6 +225,6 @@ cases = joined (setups ∷ installations ∷ lendings ∷ others ∷ listings �
 
 pub record Hold : Type 0 where
   pub acts : map (λ c. act (lowestEmpty (c .slots)) (c .slots) (c .request)) cases ≡ map (λ c. c .answer) cases
-  -- "The lowest empty slot": with none empty, the number of slots
+  -- PROFILE 5.1: the lowest empty slot; with none empty, the number of slots
   pub lowest : map lowestEmpty ([] ∷ full ∷ spare ∷ (empty ∷ full) ∷ twice ∷ []) ≡ 0 ∷ 3 ∷ 3 ∷ 0 ∷ 1 ∷ []
   pub firsts : map (λ l. firstOf (l .0) (pieces 10 15 fifteenHandles)) limits ≡ map (λ l. handles (l .2) (take (l .1) (pieces 10 15 fifteenHandles))) limits

@@ -31,7 +31,7 @@ pub record Hold : Type 0 where
   pub hexed : hex "00 09 0A 0F 10 7B 9C A0 FF" ≡ 0 ∷ 9 ∷ 10 ∷ 15 ∷ 16 ∷ 123 ∷ 156 ∷ 160 ∷ 255 ∷ []
   pub framed : sized "21 80" (counting 1 258) ≡ 33 ∷ 128 ∷ 1 ∷ 2 ∷ counting 1 258
   pub replaced : changed 2 9 (counting 1 4) ≡ 1 ∷ 2 ∷ 9 ∷ 4 ∷ []
-  -- a choice; a byte; some bytes; a number of 16 bits, "most significant bit first"
+  -- a choice; a byte; some bytes; a number of 16 bits, high byte first
   pub chosen : (if true then hex "01" else hex "02") ∷ (if false then hex "01" else hex "02") ∷ [] ≡ hex "01" ∷ hex "02" ∷ []
   pub byted : byte 0 (hex "11 22 33") ∷ byte 2 (hex "11 22 33") ∷ byte 3 (hex "11 22 33") ∷ [] ≡ 0x11 ∷ 0x33 ∷ 0 ∷ []
   pub parted : part 1 2 (hex "11 22 33 44") ≡ hex "22 33"

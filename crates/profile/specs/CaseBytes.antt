@@ -1,4 +1,4 @@
--- Words for the worked cases: bytes in hex as document 01 prints them, slots laid out by hand, and the handles, keys and hashes that occur.
+-- Words for the worked cases: bytes in hex as PROFILE 9 shows them, slots laid out by hand, and the handles, keys and hashes that occur.
 use Prim.Native.Nat.{ℕ, zero, suc, _+_, _-_, _*_, _/_, _%_}
 use Prim.Native.String.{String}
 use mathlib.Core.List.{List, [], _∷_, _++_}
@@ -25,7 +25,7 @@ abbrev pub counting : ℕ → ℕ → Bytes
 counting first zero = []
 counting first (suc n) = first ∷ counting (first + 1) n
 
--- a frame: its first two bytes, and a body behind its length
+-- a frame: its first two bytes, the length of its body, its body
 abbrev pub sized : String → Bytes → Bytes
 sized head body = hex head ++ (length body / 256 ∷ length body % 256 ∷ body)
 
@@ -46,7 +46,7 @@ changed at x s = take at s ++ (x ∷ drop (at + 1) s)
 abbrev pub renamed : Bytes → Bytes → Bytes
 renamed h s = take 1 s ++ h ++ drop 11 s
 
--- ---- handles: "H1 is ten bytes 01, H2 ten bytes 02"
+-- ---- handles: H1 and H2 as in PROFILE 9, and others
 abbrev pub H0 : Bytes
 H0 = replicate 10 0x00
 

@@ -1,11 +1,11 @@
--- Document 01, "Examples": the states of the worked cases, written by hand from the layout of a slot.
+-- PROFILE 9: the states of the worked cases, written by hand from the layout of a slot.
 use mathlib.Core.List.{[], _∷_, _++_, map}
 use lib.ListN.{replicate}
 use Rattle.profile.specs.Bytes.{Bytes, joined}
 use Rattle.profile.specs.CaseBytes.{hex, counting, laid, H1, H2, H3, H4, K, L, A, B, eight, five}
 
 -- ---- one slot
--- "all zero at first"
+-- blank
 abbrev pub blank : Bytes
 blank = laid []
 
@@ -68,6 +68,6 @@ keyless = laid ((0, hex "80") ∷ (1, H1) ∷ (29, hex "00 05") ∷ (192, five) 
 abbrev pub twins : Bytes
 twins = laid ((0, hex "88") ∷ (1, H1) ∷ (11, K) ∷ (27, hex "00 07") ∷ (29, hex "00 05") ∷ (31, A ++ A) ∷ (192, five) ∷ [])
 
--- ---- fifteen handles, one behind another: the first nine bytes 06 and the last from 01 to 0F
+-- ---- fifteen handles, one after another: the first nine bytes 06 and the last from 01 to 0F
 abbrev pub fifteenHandles : Bytes
 fifteenHandles = joined (map (λ i. replicate 9 0x06 ++ (i ∷ [])) (counting 0x01 15))

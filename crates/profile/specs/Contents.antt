@@ -1,4 +1,4 @@
--- Demand 3: what each right holds, told from the exchanges alone, right by right: from its installation, and from the returns that gave it a count.
+-- PROFILE 8.3: what each right holds, told from the exchanges alone, right by right: from its installation, and from the returns that gave it a count.
 use Prim.Native.Nat.{ℕ}
 use mathlib.Core.Path.{_≡_}
 use mathlib.Core.List.{List, [], _∷_, _++_}
@@ -65,7 +65,7 @@ held (forUse h r) = r
 held (lent h r) = r
 held (gone r) = r
 
--- "with the fields sent": key, hashes and payload of the installation; the count of the last return that gave one, or of the installation
+-- PROFILE 8.3: key, hashes and payload of the installation; the count of the last return that gave one, or of the installation
 pub record Holds (p : Installed) (r : Right) : Type 0 where
   pub key : r .key ≡ p .right .key
   pub hashes : r .hashes ≡ p .right .hashes

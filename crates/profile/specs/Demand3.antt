@@ -1,4 +1,4 @@
--- Demand 3, whole: what holds after every sequence of calls on an all-zero table.
+-- PROFILE 8.3, whole: what holds after every sequence of calls on an all-zero table.
 use Prim.Native.Nat.{ℕ}
 use mathlib.Core.Path.{_≡_}
 use mathlib.Core.Logic.{_↔_}
@@ -30,7 +30,7 @@ IsRight (enabled r) = Unit {0}
 IsRight (disabled r) = Unit {0}
 
 -- each right for use or lent has one record, each enabled or disabled record is that of a right, and no two rights share one;
--- a right is known by its number, so "two installations with equal bytes are two rights"
+-- a right is known by its number, so two installations of the same bytes are two rights
 pub record Mirrors (l : Ledger) (t : List Slot) : Type 0 where
   pub recorded : (i : ℕ) (o : Owned) (h : Bytes) (e : Entry) → rightNumber i l ≡ some o → Stands o h e → underSlots h t ≡ e ∷ []
   pub righted : (h : Bytes) (e : Entry) → IsRight e → underSlots h t ≡ e ∷ [] → (i : ℕ) × (o : Owned) × (rightNumber i l ≡ some o) × Stands o h e
@@ -56,8 +56,8 @@ pub record KeyOut (table : Bytes) (c : Call) (h k : Bytes) : Type 0 where
   pub lends : Lends asked h k
   pub success : exchangeOf table c ≡ record { request = asked; status = 0 } ∷ []
 
--- "a key goes out only for a right then for use": a right is for use under h by the ledger l, and its key is what the reply holds
--- after its head; what was for use under h is lent under k by the ledger l′
+-- a key goes out only for a right that is for use at that moment: a right is for use under h by the ledger l, and its key is what the reply
+-- holds after its head; what was for use under h is lent under k by the ledger l′
 pub record LentOut (l l′ : Ledger) (asked : Request) (h k buffer reply : Bytes) : Type 0 where
   pub number : ℕ
   pub right : Right
@@ -106,18 +106,18 @@ pub record AlikeButKeys (table other : Bytes) : Type 0 where
   pub other-well : wellTable other ≡ true
   pub alike : ButKeys (slotBytes table) (slotBytes other)
 
--- ---- the demand, after the calls cs on an all-zero table of n slots
+-- ---- PROFILE 8.3, after the calls cs on an all-zero table of n slots
 pub record Demand3 (n : ℕ) (cs : List Call) : Type 0 where
   -- the table is whole and well formed
   pub whole : wholeSlots (tableAfterAll n cs) ≡ true
   pub well : wellTable (tableAfterAll n cs) ≡ true
-  -- "the requests and statuses alone tell which rights are for use, lent or gone and under which handle; the records agree exactly"
+  -- slots and ledger agree: handle by handle, right by right, record by record
   pub agrees : Agrees (ledgerThen n cs) (slotsOf (tableAfterAll n cs))
   pub mirrors : Mirrors (ledgerThen n cs) (slotsOf (tableAfterAll n cs))
   pub records : Records (ledgerThen n cs) (slotsOf (tableAfterAll n cs))
   -- right number i has the key, hashes and payload of installation number i, and the count last given to it
   pub contents : Contents (exchanges (blankTable n) cs) (ledgerThen n cs)
-  -- "a key goes out only for a right then for use"
+  -- a key goes out only for a right that is for use at that moment, and what goes out is of this right
   pub key-out : (c : Call) (h k : Bytes) (o : KeyOut (tableAfterAll n cs) c h k)
       → LentOut (ledgerThen n cs) (ledgerThen n (cs ++ (c ∷ []))) (o .asked) h k (c .buffer) (agent (tableAfterAll n cs) c .reply)
   -- if the right of number i is for use under h when its key goes out, and for use again after further calls,

@@ -1,4 +1,4 @@
--- The words of demand 3 in worked cases, with what they exclude: records that agree, what rights hold, calls by which a key goes out, returns, and tables
+-- The words of PROFILE 8.3 in worked cases, with what they exclude: records that agree, what rights hold, calls by which a key goes out, returns, and tables
 -- that differ in keys alone.
 use mathlib.Core.Path.{_≡_}
 use mathlib.Core.List.{List, [], _∷_, _++_, map}
@@ -72,8 +72,9 @@ pub record Hold : Type 0 where
   -- the installations that succeeded, and the count that the first of them, and one lent under H3, has at the end
   pub sent : map (λ p. p .right) (installations exchanged) ≡ plain ∷ plain ∷ []
   pub named : map (λ p. p .handle) (installations exchanged) ≡ H1 ∷ H1 ∷ []
-  pub behind : map (λ p. p .later) (installations exchanged) ≡ (asking (rek H1 H2) 0 ∷ later) ∷ drop 1 later ∷ []
-  pub last-counts : lastCount H1 false 7 (asking (rek H1 H2) 0 ∷ later) ∷ lastCount H1 false 7 (drop 1 later) ∷ lastCount H3 true 7 later ∷ lastCount H2 false 7 [] ∷ [] ≡ 2 ∷ 7 ∷ 2 ∷ 7 ∷ []
+  pub after-each : map (λ p. p .later) (installations exchanged) ≡ (asking (rek H1 H2) 0 ∷ later) ∷ drop 1 later ∷ []
+  pub last-counts : lastCount H1 false 7 (asking (rek H1 H2) 0 ∷ later) ∷ lastCount H1 false 7 (drop 1 later) ∷ lastCount H3 true 7 later ∷ lastCount H2 false 7 [] ∷ []
+      ≡ 2 ∷ 7 ∷ 2 ∷ 7 ∷ []
   -- a return that is sent again gives no count; nor does one under the handle of a right that is gone
   pub sent-again : lastCount H2 true 7 (take 4 later) ≡ 3
   pub no-longer : lastCount H1 true 7 (asking (remove H1) 0 ∷ asking (enable H1 3) 0 ∷ []) ≡ 7

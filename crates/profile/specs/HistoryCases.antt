@@ -1,4 +1,4 @@
--- Document 01, "How strict the contracts are", in worked cases: what the history tells of each exchange, and of a run of calls.
+-- PROFILE 8, in worked cases: what the history tells of each exchange, and of a run of calls.
 use Prim.Native.Nat.{ℕ}
 use mathlib.Core.Path.{_≡_}
 use mathlib.Core.List.{List, [], _∷_, _++_, map}
@@ -36,16 +36,20 @@ pub record Case : Type 0 where
   pub status : ℕ
   pub after : Ledger
 
--- "kind 1 opens a setup of the length asked; .. 7 closes the setup. All else does nothing"
+-- PROFILE 8.2: what each kind tells
 unfoldable pub tellings : List Case
 tellings =
-    record { request = setup H1-last 6; status = 0; after = record { setups = open-setup H1-last 6 ∷ open-setup H3 5 ∷ open-setup H4 9 ∷ []; rights = forUse H1 plain ∷ lent H2 other ∷ gone plain ∷ [] } }
+    record {
+      request = setup H1-last 6;
+      status = 0;
+      after = record { setups = open-setup H1-last 6 ∷ open-setup H3 5 ∷ open-setup H4 9 ∷ []; rights = forUse H1 plain ∷ lent H2 other ∷ gone plain ∷ [] };
+    }
     ∷ record { request = install H3 plain; status = 0; after = record { setups = open-setup H4 9 ∷ []; rights = forUse H1 plain ∷ lent H2 other ∷ gone plain ∷ forUse H3 plain ∷ [] } }
     ∷ record { request = install H4 other; status = 0; after = record { setups = open-setup H3 5 ∷ []; rights = forUse H1 plain ∷ lent H2 other ∷ gone plain ∷ forUse H4 other ∷ [] } }
     ∷ record { request = retrieve H1 H1-last; status = 0; after = record { setups = open-setup H3 5 ∷ open-setup H4 9 ∷ []; rights = lent H1-last plain ∷ lent H2 other ∷ gone plain ∷ [] } }
     ∷ record { request = rek H1 H1-last; status = 0; after = record { setups = open-setup H3 5 ∷ open-setup H4 9 ∷ []; rights = lent H1-last plain ∷ lent H2 other ∷ gone plain ∷ [] } }
     ∷ record { request = rek H1-last H1; status = 0; after = before }
-    -- "the right under the handle", whichever it is
+    -- the right under the handle, lent or for use
     ∷ record { request = retrieve H2 H1-last; status = 0; after = record { setups = open-setup H3 5 ∷ open-setup H4 9 ∷ []; rights = forUse H1 plain ∷ lent H1-last other ∷ gone plain ∷ [] } }
     ∷ record { request = enable H2 3; status = 0; after = record { setups = open-setup H3 5 ∷ open-setup H4 9 ∷ []; rights = forUse H1 plain ∷ forUse H2 other3 ∷ gone plain ∷ [] } }
     ∷ record { request = enable H1 3; status = 0; after = before }
@@ -58,7 +62,7 @@ tellings =
     ∷ record { request = cancel H1; status = 0; after = before }
     ∷ record { request = list 0 (A ∷ []); status = 0; after = before }
     ∷ record { request = info H1; status = 0; after = before }
-    -- "by status 0 only"
+    -- PROFILE 8.1: a status other than 0 tells nothing
     ∷ record { request = setup H1-last 6; status = 7; after = before }
     ∷ record { request = install H3 plain; status = 1; after = before }
     ∷ record { request = retrieve H1 H2; status = 5; after = before }
@@ -109,7 +113,7 @@ further =
     ∷ asking (setup H4 9) 0
     ∷ []
 
--- "two installations with equal bytes are two rights": one lent, one for use; in the end one for use again, one gone
+-- PROFILE 8.2: two installations of the same bytes are two rights: one lent, one for use; in the end one for use again, one gone
 abbrev pub halfway : Ledger
 halfway = record { setups = []; rights = lent H2 plain ∷ forUse H1 plain ∷ [] }
 
@@ -138,10 +142,11 @@ pub record Hold : Type 0 where
   pub by-number : map (λ i. rightNumber i ledger) (0 ∷ 1 ∷ 2 ∷ []) ≡ some (forUse H2 counted3) ∷ some (gone plain) ∷ none ∷ []
   -- what stands under a handle, by the ledger and by the slots
   pub under-run : map (λ h. underLedger h ledger) (H1 ∷ H2 ∷ H3 ∷ H4 ∷ []) ≡ [] ∷ (enabled counted3 ∷ []) ∷ [] ∷ (reserved 9 ∷ []) ∷ []
-  pub under-ledger : map (λ h. underLedger h before) (H1 ∷ H2 ∷ H3 ∷ H4 ∷ H1-last ∷ []) ≡ (enabled plain ∷ []) ∷ (disabled other ∷ []) ∷ (reserved 5 ∷ []) ∷ (reserved 9 ∷ []) ∷ [] ∷ []
+  pub under-ledger : map (λ h. underLedger h before) (H1 ∷ H2 ∷ H3 ∷ H4 ∷ H1-last ∷ [])
+      ≡ (enabled plain ∷ []) ∷ (disabled other ∷ []) ∷ (reserved 5 ∷ []) ∷ (reserved 9 ∷ []) ∷ [] ∷ []
   pub under-slots : map (λ h. underSlots h (taken H1 (enabled plain) ∷ empty ∷ taken H2 (disabled other) ∷ taken H3 (reserved 5) ∷ taken H1 (reserved 9) ∷ [])) (H1 ∷ H2 ∷ H3 ∷ H1-last ∷ [])
       ≡ (enabled plain ∷ reserved 9 ∷ []) ∷ (disabled other ∷ []) ∷ (reserved 5 ∷ []) ∷ [] ∷ []
-  -- "the records agree exactly": not where a record is missing, and not where two stand under one handle
+  -- PROFILE 8.3: slots and ledger agree: not where a record is missing, and not where two stand under one handle
   pub not-missing : ¬ Agrees (record { setups = []; rights = forUse H1 plain ∷ [] }) (empty ∷ [])
   pub not-more : ¬ Agrees blankLedger (taken H1 (reserved 5) ∷ [])
   pub not-twice : ¬ Agrees (record { setups = []; rights = forUse H1 plain ∷ forUse H1 plain ∷ [] }) (taken H1 (enabled plain) ∷ taken H1 (enabled plain) ∷ [])

@@ -1,4 +1,4 @@
--- Rules of document 01 said once more, each in another way than its definition says it: so that a wrong definition is refused.
+-- PROFILE 2.5, 4, 5.1 and 5.8 said once more, each rule in another way than its definition says it: so that a wrong definition is refused.
 use Prim.Native.Nat.{ℕ, _+_, _*_, _≤_, _<_}
 use mathlib.Core.Path.{_≡_}
 use mathlib.Core.Logic.{_⊎_, _↔_}
@@ -12,12 +12,12 @@ use Rattle.profile.specs.Slot.{Right, Entry, reserved, enabled, disabled
 use Rattle.profile.specs.Frame.{kindNumber, statusIn}
 use Rattle.profile.specs.Agent.{Given, handles, Found, absent, one, Call, Outcome}
 
--- ---- "Slots"
--- "no two non-empty slots have the same handle": where two slots are under one handle, they are one slot
+-- ---- PROFILE 2.5
+-- the handles of non-empty slots are all different: two slots with one handle are one slot
 abbrev pub Apart : List Slot → Type 0
 Apart t = (i j : ℕ) (h : Bytes) (e f : Entry) → getElem? t i ≡ some (taken h e) → getElem? t j ≡ some (taken h f) → i ≡ j
 
--- ---- "Numbers and statuses"
+-- ---- PROFILE 4
 -- a call that gives a number changes nothing; one that gives a status writes four bytes, the kind as asked and the status in them, and changes nothing else
 pub record Refuses (table : Bytes) (c : Call) (o : Outcome) : Type 0 where
   pub by-number : eqb (o .number) 0 ≡ false → (o .reply ≡ c .buffer) × (o .table ≡ table)
@@ -29,19 +29,19 @@ abbrev pub FoundIs : Bytes → List Slot → Found → Type 0
 FoundIs h t absent = (i : ℕ) (e : Entry) → getElem? t i ≡ some (taken h e) → ⊥
 FoundIs h t (one i e) = getElem? t i ≡ some (taken h e)
 
--- "The lowest empty slot becomes reserved": of the slots t, the one that a setup takes is empty, no lower one is, and it alone is changed
+-- PROFILE 5.1: of the slots t, the one that a setup takes is empty, no lower one is, and it alone is changed
 pub record SetsLowest (t : List Slot) (h : Bytes) (n : ℕ) (u : List Slot) : Type 0 where
   pub free : ℕ
   pub is-empty : getElem? t free ≡ some empty
   pub none-lower : (i : ℕ) → i < free → getElem? t i ≡ some empty → ⊥
   pub after : u ≡ set t free (taken h (reserved n))
 
--- ---- kind 8
--- a right has "some hash of the request", or none was asked for
+-- ---- PROFILE 5.8
+-- a right is asked for: it has one of the hashes asked for, or none was asked for
 abbrev pub AskedFor : List Bytes → Right → Type 0
 AskedFor q r = (q ≡ []) ⊎ ((x : Bytes) × In x q × In x (r .hashes))
 
--- "in slot order and each once, the handles of enabled records" asked for: slot by slot
+-- the handles of enabled records asked for, slot by slot
 pub data InSlotOrder (q : List Bytes) : List Slot → List Bytes → Type 0 where
   no-slot : InSlotOrder q [] []
   asked-for : {h : Bytes} {r : Right} {t : List Slot} {hs : List Bytes} → AskedFor q r → InSlotOrder q t hs → InSlotOrder q (taken h (enabled r) ∷ t) (h ∷ hs)
@@ -57,7 +57,7 @@ pub record Shown (q : List Bytes) (t : List Slot) (h : Bytes) : Type 0 where
   pub stands : getElem? t slot ≡ some (taken h (enabled right))
   pub asked : AskedFor q right
 
--- "Limit 0 is none; otherwise the first whole handles that fit in limit bytes. More is 1 exactly if a handle was left off."
+-- a limit of 0 lets all handles through, another as many whole ones as fit in its bytes; `more` says whether any was left off
 pub record WithinLimit (limit : ℕ) (hs : List Bytes) (g : Given) : Type 0 where
   pub first : List Bytes
   pub left-off : List Bytes

@@ -1,4 +1,4 @@
--- Document 01, "Device end and listing", in worked cases: tables, and what `cardlist` prints of them.
+-- PROFILE 7, in worked cases: tables, and what `cardlist` prints of them.
 use mathlib.Core.Path.{_≡_}
 use mathlib.Core.List.{List, [], _∷_, _++_, map}
 use Prim.Native.Nat.{ℕ}
@@ -17,19 +17,19 @@ counted = laid ((0, hex "C0") ∷ (1, H2) ∷ (27, hex "FF FF") ∷ (29, hex "01
 -- a table, and the text
 unfoldable pub cases : List (Bytes × String)
 cases =
-    -- "A one-slot table after case 1 gives exactly"
+    -- after case 1
     (after1, "slot place hashes count length\n0 reserved 0 0 5\n")
     -- all four places
     ∷ (hashed8 ++ blank ++ counted ++ waiting, "slot place hashes count length\n0 enabled 8 7 5\n1 empty 0 0 0\n2 disabled 0 65535 256\n3 reserved 0 0 5\n")
     ∷ (changed 27 0x04 (changed 28 0xD2 longest), "slot place hashes count length\n0 enabled 0 1234 4096\n")
-    -- "For a refused table it prints one line"
+    -- PROFILE 7.2: refused tables
     ∷ ([], "refused 102\n")
     ∷ (replicate 4289 0x01, "refused 102\n")
     ∷ (changed 191 0x01 after1, "refused 103\n")
     ∷ (after1 ++ after1, "refused 103\n")
     ∷ []
 
--- "the rest in decimal"
+-- PROFILE 7.1: decimal numbers
 unfoldable pub numbers : List (ℕ × String)
 numbers =
     (0, "0")

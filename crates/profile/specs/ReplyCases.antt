@@ -1,4 +1,4 @@
--- Document 01, "Device end and listing", in worked cases: replies, and what the reply reader says of them.
+-- PROFILE 6.3, in worked cases: replies, and what the reply reader says of them.
 use Prim.Native.Nat.{ℕ}
 use Prim.Native.String.{String}
 use mathlib.Core.Path.{_≡_}
@@ -27,7 +27,7 @@ plain kind f = (f, gave kind nothing)
 abbrev pub fifteen : List Bytes
 fifteen = map (λ i. i ∷ replicate 9 0x07) (counting 0x01 15)
 
--- ---- "refuses with 203 unless length, version and zero bits are right, status is 0 to 8"
+-- ---- whole frames, of version 1, with a status of 0 to 8
 unfoldable pub heads : List Case
 heads =
     -- length
@@ -58,11 +58,11 @@ heads =
     ∷ bad (hex "21 09 00 00")
     ∷ bad (hex "21 10 00 00")
     ∷ bad (hex "21 FF 00 00")
-    -- "the body is empty for a status other than 0"
+    -- a body is refused where the status is not 0
     ∷ bad (hex "21 05 00 01 00")
     ∷ bad (hex "24 04 00 10" ++ key)
     ∷ bad (hex "28 08 00 01 00")
-    -- "no success for kinds outside 1 to 9"; their refusals are read
+    -- only kinds 1 to 9 succeed; refusals of other kinds are read
     ∷ bad (hex "20 00 00 00")
     ∷ bad (hex "2A 00 00 00")
     ∷ bad (hex "3F 00 00 00")
@@ -71,7 +71,7 @@ heads =
     ∷ (hex "3F 02 00 00", failed 31 2)
     ∷ []
 
--- ---- "of its kind's shape for 0"
+-- ---- the shape of the body at success, by kind
 unfoldable pub shapes : List Case
 shapes =
     -- 1, 2, 5, 6, 7: no body
@@ -89,7 +89,7 @@ shapes =
     ∷ bad (hex "24 00 00 0F" ++ take 15 key)
     ∷ bad (hex "24 00 00 11" ++ key ++ hex "00")
     ∷ bad (hex "24 00 00 00")
-    -- 9: count, "payload 1 to 4,096"
+    -- 9: a count, and a payload of 1 to 4,096 bytes
     ∷ (hex "29 00 00 03 31 32 51", gave 9 (counted 0x3132 (hex "51")))
     ∷ (hex "29 00 00 04 00 07 51 52", gave 9 (counted 7 (hex "51 52")))
     ∷ (sized "29 00" (hex "31 32" ++ replicate 4096 0x5A), gave 9 (counted 0x3132 (replicate 4096 0x5A)))
@@ -97,7 +97,7 @@ shapes =
     ∷ bad (hex "29 00 00 02 31 32")
     ∷ bad (hex "29 00 00 01 31")
     ∷ bad (hex "29 00 00 00")
-    -- 8: "zero bits 0, 0 to 15 whole handles"
+    -- 8: zero bits, and 0 to 15 handles, the last one complete
     ∷ (hex "28 00 00 01 00", gave 8 (handles false []))
     ∷ (hex "28 00 00 01 80", gave 8 (handles true []))
     ∷ (hex "28 00 00 0B 00" ++ h, gave 8 (handles false (h ∷ [])))
@@ -113,7 +113,7 @@ shapes =
     ∷ bad (hex "28 00 00 02 00 01")
     ∷ []
 
--- 3: "zero bits 0, at most 8 hashes, payload 1 to 4,096"; key, count and hash byte first
+-- 3: at most 8 hashes, the low half of the hash byte 0, a payload of 1 to 4,096 bytes; key, count and hash byte first
 abbrev pub right : String → Bytes → Bytes
 right middle rest = sized "23 00" (key ++ hex middle ++ rest)
 
@@ -142,7 +142,7 @@ rights =
     ∷ bad (hex "23 00 00 00")
     ∷ []
 
--- ---- answers: their frames, and what the reader has of them
+-- ---- PROFILE 6.4: answers: their frames, and what the reader has of them
 unfoldable pub answers : List (ℕ × Answer × Bytes)
 answers =
     (1, deny integrity, hex "21 01 00 00")

@@ -1,4 +1,4 @@
--- Document 01, "Frames" and "First, for all kinds", in worked cases: frames, and what they are read as.
+-- PROFILE 3.3, 4.3 and 6.1, in worked cases: frames, and what they are read as.
 use Prim.Native.String.{String}
 use mathlib.Core.Path.{_≡_}
 use mathlib.Core.List.{List, [], _∷_, _++_, map}
@@ -7,7 +7,8 @@ use mathlib.Core.Bool.{Bool, true, false}
 use lib.ListN.{take, replicate}
 use Rattle.profile.specs.Bytes.{Bytes, joined}
 use Rattle.profile.specs.Frame.{Kind, Setup, Install, Retrieve, Rek, Enable, Remove, Cancel, List', Info, versionHolds, kindNumber, hashCountAt18, Refusal, integrity, parameter, unsupported}
-use Rattle.profile.specs.Request.{Request, setup, install, retrieve, rek, enable, remove, cancel, list, info, Read, asks, refused, noFrame, verdict, zeroBits, bodyFits, readRequest, writeRequest}
+use Rattle.profile.specs.Request.{Request, setup, install, retrieve, rek, enable, remove, cancel, list, info}
+use Rattle.profile.specs.Request.{Read, asks, refused, noFrame, verdict, zeroBits, bodyFits, readRequest, writeRequest}
 use Rattle.profile.specs.CaseBytes.{hex, sized, h, n, key, p, q, eight, eightHashes}
 
 -- a frame, and what it is read as
@@ -24,7 +25,7 @@ refuses f r = (f, refused r)
 abbrev pub right : String → String → Bytes → Bytes
 right head middle rest = sized head (h ++ key ++ hex middle ++ rest)
 
--- ---- "A frame is either a request with its fields": the fields of each kind
+-- ---- PROFILE 3.3: the fields of each kind
 unfoldable pub requests : List Case
 requests =
     reads (hex "21 80 00 0C" ++ h ++ hex "31 32") (setup h 0x3132)
@@ -40,12 +41,12 @@ requests =
     ∷ reads (hex "28 80 00 17 31 32 01" ++ p) (list 0x3132 (p ∷ []))
     ∷ reads (hex "28 80 00 2B 00 00 02" ++ p ++ q) (list 0 (p ∷ q ∷ []))
     ∷ reads (hex "29 80 00 0A" ++ h) (info h)
-    -- a setup of length 0 is refused by the agent, and not here; and one of the greatest length
+    -- setups of length 0 and of the greatest length are read here: the agent refuses them
     ∷ reads (hex "21 80 00 0C" ++ h ++ hex "00 00") (setup h 0)
     ∷ reads (hex "21 80 00 0C" ++ h ++ hex "FF FF") (setup h 65535)
     ∷ []
 
--- ---- "104 frame under 4 bytes, or its length not 4 plus its body length", before all else
+-- ---- PROFILE 4.1: 104, before all else
 unfoldable pub noFrames : List Case
 noFrames =
     ([], noFrame)
@@ -63,7 +64,7 @@ noFrames =
     ∷ refuses (hex "2A 80 00 00") unsupported
     ∷ []
 
--- ---- "version not 1 or one of the 7 zero bits set, 2": each version, each bit; before kind, length, verdict and fields
+-- ---- PROFILE 4.3: each other version, each zero bit; before kind, length, verdict and fields
 unfoldable pub heads : List Case
 heads =
     refuses (hex "06 80 00 0A" ++ h) parameter
@@ -92,7 +93,7 @@ heads =
     ∷ refuses (hex "20 C0 00 00") parameter
     ∷ []
 
--- ---- "kind not 1 to 9, 3": whatever the body, and whatever the verdict
+-- ---- PROFILE 4.3: an unknown kind, whatever the body, and whatever the verdict
 unfoldable pub kinds : List Case
 kinds =
     refuses (hex "20 80 00 00") unsupported
@@ -107,7 +108,7 @@ kinds =
     ∷ refuses (hex "3F 80 00 0A" ++ h) unsupported
     ∷ []
 
--- ---- "body length outside the kind's, 2": one byte less and one more, before the verdict
+-- ---- PROFILE 4.3: a body of one byte less and one more than the kind's, before the verdict
 unfoldable pub lengths : List Case
 lengths =
     refuses (hex "21 80 00 0B" ++ h ++ hex "00") parameter
@@ -137,7 +138,7 @@ lengths =
     ∷ refuses (hex "29 80 00 0B" ++ h ++ hex "00") parameter
     ∷ []
 
--- ---- "verdict 0 for kinds 1 to 7, 1 (8 and 9 ignore it)": before the fields of kind 2
+-- ---- PROFILE 4.3: verdict 0 in kinds 1 to 7, before the fields of kind 2; kinds 8 and 9 are read
 unfoldable pub verdicts : List Case
 verdicts =
     refuses (hex "21 00 00 0C" ++ h ++ hex "00 05") integrity
@@ -155,20 +156,20 @@ verdicts =
     ∷ reads (hex "29 00 00 0A" ++ h) (info h)
     ∷ []
 
--- ---- "the field tests of kinds 2 and 8"
+-- ---- PROFILE 5.2 and 5.8: the field tests
 unfoldable pub fieldTests : List Case
 fieldTests =
-    -- "hash count over 8"
+    -- 8 hashes, and more
     reads (right "22 80" "31 32 80" (eight ++ hex "51")) (install h (record { key = key; count = 0x3132; hashes = eightHashes; payload = hex "51" }))
     ∷ refuses (right "22 80" "31 32 90" (eight ++ p ++ hex "51")) parameter
     ∷ refuses (right "22 80" "31 32 F0" (eight ++ eight ++ hex "51")) parameter
-    -- "the 4 bits not zero": each of them
+    -- the low half of the hash byte: each bit
     ∷ refuses (right "22 80" "31 32 01" (hex "51 52")) parameter
     ∷ refuses (right "22 80" "31 32 02" (hex "51 52")) parameter
     ∷ refuses (right "22 80" "31 32 04" (hex "51 52")) parameter
     ∷ refuses (right "22 80" "31 32 08" (hex "51 52")) parameter
     ∷ refuses (right "22 80" "31 32 18" (p ++ hex "51 52")) parameter
-    -- "or payload (body less 29 less 20 times the hash count) not 1 to 4,096 bytes": none, one, and the hashes overrun the body
+    -- the payload: none, one byte, and hashes that overrun the body
     ∷ refuses (right "22 80" "31 32 10" p) parameter
     ∷ reads (right "22 80" "31 32 10" (p ++ hex "51")) (install h (record { key = key; count = 0x3132; hashes = p ∷ []; payload = hex "51" }))
     ∷ refuses (right "22 80" "31 32 20" (p ++ take 19 q)) parameter
@@ -179,7 +180,7 @@ fieldTests =
     ∷ refuses (right "22 80" "31 32 00" (replicate 4097 0x5A)) parameter
     ∷ reads (right "22 80" "31 32 80" (eight ++ replicate 4096 0x5A)) (install h (record { key = key; count = 0x3132; hashes = eightHashes; payload = replicate 4096 0x5A }))
     ∷ refuses (right "22 80" "31 32 80" (eight ++ replicate 4097 0x5A)) parameter
-    -- kind 8: "hash count over 8, or body not 3 plus 20 times the hash count"
+    -- kind 8: 8 hashes, and more; a body that does not end with its last hash
     ∷ reads (sized "28 80" (hex "01 00 08" ++ eight)) (list 256 eightHashes)
     ∷ refuses (sized "28 80" (hex "01 00 09" ++ eight ++ p)) parameter
     ∷ refuses (sized "28 80" (hex "01 00 80" ++ eight)) parameter
@@ -215,13 +216,13 @@ bodies =
 
 pub record Hold : Type 0 where
   pub lengths-fit : map (λ k. map (bodyFits (k .0)) (k .1)) bodies ≡ map (λ k. k .2) bodies
-  -- "verdict 1 bit (1 means the MAC held), 7 zero bits"
+  -- PROFILE 3.1: the verdict bit, and the zero bits
   pub verdict-bit : map verdict (hex "21 00" ∷ hex "21 7F" ∷ hex "21 80" ∷ hex "21 FF" ∷ []) ≡ 0 ∷ 0 ∷ 1 ∷ 1 ∷ []
   pub zero-bits : map zeroBits (hex "21 00" ∷ hex "21 80" ∷ hex "21 81" ∷ hex "21 40" ∷ []) ≡ true ∷ true ∷ false ∷ false ∷ []
-  -- "version 3 bits (1), kind 5 bits"
+  -- PROFILE 3: three bits of version, five of kind
   pub versions : map versionHolds (hex "00" ∷ hex "1F" ∷ hex "20" ∷ hex "3F" ∷ hex "40" ∷ hex "61" ∷ []) ≡ false ∷ false ∷ true ∷ true ∷ false ∷ false ∷ []
   pub kind-bits : map kindNumber (hex "00" ∷ hex "1F" ∷ hex "E0" ∷ hex "30" ∷ hex "2A" ∷ []) ≡ 0 ∷ 31 ∷ 0 ∷ 16 ∷ 10 ∷ []
-  -- "hash count 4 bits, 4 zero bits", behind key and count
+  -- PROFILE 3.3: the high half of the hash byte, after key and count
   pub hash-counts : map (λ b. hashCountAt18 (replicate 18 0x00 ++ (b ∷ []))) (0x0F ∷ 0x10 ∷ 0x8F ∷ 0xFF ∷ []) ≡ 0 ∷ 1 ∷ 8 ∷ 15 ∷ []
   pub read : map (λ c. readRequest (c .0)) cases ≡ map (λ c. c .1) cases
   pub write : joined (map (λ c. written (c .1)) requests) ≡ map (λ c. c .0) requests

@@ -1,4 +1,4 @@
--- Document 01, "Slots" and "Frames", in worked cases: which sizes fit, the least and the greatest, and which do not.
+-- PROFILE 1.3 and 2.4, in worked cases: which sizes fit, the least and the greatest, and which do not.
 use mathlib.Core.List.{List, [], _∷_}
 use lib.ListN.{replicate}
 use Rattle.profile.specs.Bytes.{Bytes}
@@ -35,7 +35,7 @@ abbrev pub H11 : Bytes
 H11 = replicate 11 0x01
 
 pub record Hold : Type 0 where
-  -- 16 bytes of key, "up to 8 asset hashes of 20 bytes", payload 1 to 4,096
+  -- rights: a key of 16 bytes, at most 8 hashes of 20 bytes, a payload of 1 to 4,096 bytes
   pub least-fits : RightFits least
   pub most-fits : RightFits most
   pub key-15 : ¬ RightFits (of (replicate 15 0x11) [] (hex "BC"))
@@ -45,7 +45,7 @@ pub record Hold : Type 0 where
   pub hash-21 : ¬ RightFits (of K long (hex "BC"))
   pub payload-0 : ¬ RightFits (of K [] [])
   pub payload-4097 : ¬ RightFits (of K [] (replicate 4097 0x5A))
-  -- slots: "Reserved: length 1 to 4,096"; handles of ten bytes
+  -- slots: room for 1 to 4,096 bytes; handles of ten bytes
   pub empty-fits : SlotFits empty
   pub room-1 : SlotFits (taken H1 (reserved 1))
   pub room-4096 : SlotFits (taken H1 (reserved 4096))

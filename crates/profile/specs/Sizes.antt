@@ -1,4 +1,4 @@
--- PROFILE 1.3, 2.2, 4.1, 6.2 and 6.3: the profile's sizes, offsets and numbers, each in one place.
+-- PROFILE 1.3, 2.2, 4.1, 6.2 and 6.3: the profile's sizes, offsets and numbers, each said once.
 use Prim.Native.Nat.{ℕ}
 
 -- ---- sizes in bytes, and how many there may be

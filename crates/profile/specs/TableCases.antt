@@ -1,4 +1,4 @@
--- Document 01, "Slots", in worked cases: which lengths and bytes make a table, and what the bytes of a slot say.
+-- PROFILE 2, in worked cases: which lengths and bytes make a table, and what the bytes of a slot say.
 use Prim.Native.Nat.{ℕ}
 use mathlib.Core.Path.{_≡_}
 use mathlib.Core.List.{List, [], _∷_, _++_, map}
@@ -10,7 +10,7 @@ use Rattle.profile.specs.Table.{placeOf, hashCountOf, spareOf, unpack, p
 use Rattle.profile.specs.CaseBytes.{hex, changed, H0, H1, H2, H3, H1-last, H1-first, K, L, A, B, five}
 use Rattle.profile.specs.CaseTables.{blank, after1, after7, after9, after11, roomy, longest, hashed1, hashed2, lent2, hashed8, nameless, keyless, twins}
 
--- ---- "a table has 1 to 15 slots" of 4,288 bytes: lengths, and whether they are such
+-- ---- PROFILE 2.1: lengths, and whether they are those of 1 to 15 slots
 abbrev pub lengths : List (ℕ × Bool)
 lengths =
     (0, false)
@@ -21,7 +21,7 @@ lengths =
     ∷ (64320, true)
     ∷ []
 
--- ---- slots, and whether they are well formed: each rule broken alone, and what stands right beside it
+-- ---- PROFILE 2.4: slots, and whether they are well formed: each rule broken alone, and what is just allowed
 abbrev pub well : Bytes → Bytes × Bool
 well t = (t, true)
 
@@ -30,18 +30,18 @@ ill t = (t, false)
 
 unfoldable pub shapes : List (Bytes × Bool)
 shapes =
-    -- "spare bits and byte 191 are 0"
+    -- spare bits and byte 191
     ill (changed 0 0x41 after1)
     ∷ ill (changed 0 0x82 after7)
     ∷ ill (changed 0 0xC1 after9)
     ∷ ill (changed 191 0x01 after1)
     ∷ ill (changed 191 0x80 after7)
     ∷ ill (changed 191 0x01 hashed8)
-    -- "hash count is at most 8"
+    -- at most 8 hashes
     ∷ well hashed8
     ∷ ill (changed 0 0xA4 hashed8)
     ∷ ill (changed 0 0xBC hashed8)
-    -- "hash bytes beyond the count"
+    -- zeros after the last hash
     ∷ well hashed2
     ∷ well lent2
     ∷ ill (changed 31 0x01 after7)
@@ -51,13 +51,13 @@ shapes =
     ∷ ill (changed 71 0x01 hashed2)
     ∷ ill (changed 0 0x84 hashed2)
     ∷ ill (changed 0 0x9C hashed8)
-    -- "and payload bytes beyond the length are 0"
+    -- zeros after the payload
     ∷ ill (changed 197 0x01 after7)
     ∷ ill (changed 4287 0x01 after7)
     ∷ ill (changed 30 0x04 after7)
     ∷ ill (changed 197 0x01 after9)
     ∷ ill (changed 29 0x0F (changed 30 0xFF longest))
-    -- "Empty: all 4,288 bytes are 0."
+    -- empty: all zeros
     ∷ well blank
     ∷ ill (changed 0 0x01 blank)
     ∷ ill (changed 0 0x04 blank)
@@ -65,7 +65,7 @@ shapes =
     ∷ ill (changed 26 0x01 blank)
     ∷ ill (changed 30 0x01 blank)
     ∷ ill (changed 4287 0x01 blank)
-    -- "Reserved: length 1 to 4,096 (the room asked for), and hash count, key, count and payload all 0."
+    -- reserved: length 1 to 4,096, and zeros but for byte 0, handle and length
     ∷ well after1
     ∷ ill (changed 30 0x00 after1)
     ∷ well (changed 30 0x01 after1)
@@ -79,7 +79,7 @@ shapes =
     ∷ ill (changed 28 0x01 after1)
     ∷ ill (changed 192 0x01 after1)
     ∷ ill (changed 4287 0x01 roomy)
-    -- "Enabled or disabled: length 1 to 4,096."
+    -- enabled or disabled: length 1 to 4,096
     ∷ ill (changed 192 0x00 (changed 30 0x00 hashed1))
     ∷ well hashed1
     ∷ well longest
@@ -87,28 +87,28 @@ shapes =
     ∷ ill (changed 192 0x00 (changed 30 0x00 lent2))
     ∷ well (changed 0 0xC0 longest)
     ∷ ill (changed 30 0x01 (changed 0 0xC0 longest))
-    -- "any key may be zero", and a count; "Equal hashes may stand in one record."
+    -- PROFILE 2.6: a key of zeros and the count 0; the same hash twice
     ∷ well keyless
     ∷ well twins
     ∷ []
 
--- ---- tables of several slots
+-- ---- PROFILE 2.5: tables of several slots
 unfoldable pub tables : List (Bytes × Bool)
 tables =
-    -- "A table is well formed when its slots are": the last one is not, the first is not
+    -- a slot that is not well formed: the last one, the first one
     ill (after7 ++ changed 4287 0x01 blank)
     ∷ ill (changed 191 0x01 after7 ++ blank)
-    -- "and no two non-empty slots have the same handle"
+    -- two slots with one handle
     ∷ ill (after1 ++ after7)
     ∷ ill (after9 ++ after11)
-    -- but such as differ in their last byte alone
+    -- but handles may differ in their last byte alone
     ∷ well (after7 ++ changed 10 0x02 after7)
-    -- "Any ten bytes may be a handle, zeros included": one beside an empty slot, but not two
+    -- PROFILE 2.6: ten zeros are a handle: one beside an empty slot, but not two
     ∷ well (nameless ++ blank)
     ∷ ill (nameless ++ nameless)
     ∷ []
 
--- ---- the same of slots told without their bytes: whichever the places, and wherever they stand
+-- ---- PROFILE 2.5: the same of slots told without their bytes: whatever their places, and wherever they stand
 abbrev pub plain : Right
 plain = record { key = K; count = 7; hashes = A ∷ []; payload = five }
 
@@ -127,7 +127,7 @@ handles =
     ∷ (empty ∷ taken H0 (reserved 5) ∷ taken H0 (enabled plain) ∷ [], false)
     ∷ []
 
--- ---- bytes, and the slot that they are
+-- ---- PROFILE 2.2: bytes, and the slot that they are
 unfoldable pub slots : List (Bytes × Slot)
 slots =
     (blank, empty)
@@ -148,11 +148,12 @@ pub record Hold : Type 0 where
   pub slot-formed : map (λ c. wellSlot (c .0)) shapes ≡ map (λ c. c .1) shapes
   pub table-formed : map (λ c. wellTable (c .0)) tables ≡ map (λ c. c .1) tables
   pub apart : map (λ c. distinct (c .0)) handles ≡ map (λ c. c .1) handles
-  -- "handle in any non-empty slot"
-  pub in-use : map (λ h. inUse h (taken H1 (reserved 5) ∷ empty ∷ taken H2 (enabled plain) ∷ taken H3 (disabled plain) ∷ [])) (H1 ∷ H2 ∷ H3 ∷ H1-last ∷ H0 ∷ []) ≡ true ∷ true ∷ true ∷ false ∷ false ∷ []
-  -- a right with another count, and with another key
+  -- a handle in use, whatever the place of its record
+  pub in-use : map (λ h. inUse h (taken H1 (reserved 5) ∷ empty ∷ taken H2 (enabled plain) ∷ taken H3 (disabled plain) ∷ [])) (H1 ∷ H2 ∷ H3 ∷ H1-last ∷ H0 ∷ [])
+      ≡ true ∷ true ∷ true ∷ false ∷ false ∷ []
+  -- a right with another count
   pub recounted : recount 3 plain ≡ record { key = K; count = 3; hashes = A ∷ []; payload = five }
-  -- byte 0: "place 2 bits, hash count 4 bits, 2 spare bits"
+  -- PROFILE 2.2, byte 0: place, hash count, spare bits
   pub places : map (λ b. placeOf (b ∷ [])) (0x3F ∷ 0x40 ∷ 0x80 ∷ 0xC0 ∷ []) ≡ 0 ∷ 1 ∷ 2 ∷ 3 ∷ []
   pub counts : map (λ b. hashCountOf (b ∷ [])) (0xC3 ∷ 0x04 ∷ 0xE0 ∷ 0x3C ∷ []) ≡ 0 ∷ 1 ∷ 8 ∷ 15 ∷ []
   pub spares : map (λ b. spareOf (b ∷ [])) (0xFC ∷ 0x01 ∷ 0x82 ∷ 0xFF ∷ []) ≡ 0 ∷ 1 ∷ 2 ∷ 3 ∷ []

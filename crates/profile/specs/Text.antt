@@ -1,4 +1,4 @@
--- The bytes of a text, so that words stand in these pages as they are printed.
+-- The bytes of a text, so that the words of PROFILE 7.1 stand in these pages as they are printed.
 use Prim.Native.Char.{code}
 use Prim.Native.String.{String, [], _∷_}
 use mathlib.Core.List.{[] as none, _∷_ as _then_}

@@ -1,4 +1,4 @@
--- What is proved of the definitions, whole: one statement, with a field for each theorem, in the order of document 01. Its proof is `theorems`,
+-- What is proved of the definitions, whole: one statement, with a field for each theorem. Its proof is `theorems`,
 -- crates/profile/proofs/Theorems.antt; to believe a theorem, read it here.
 use Prim.Native.Nat.{ℕ, _≤_}
 use mathlib.Core.Path.{_≡_}
@@ -74,30 +74,30 @@ pub record Readable (table : Bytes) (c : Call) (o : Outcome) : Type 0 where
 pub record Theorems : Type 0 where
   -- a byte string whose bytes are all under 256 is one of the code's
   pub bytes-256 : (s : Bytes) → T (all (λ b. ltb b 256) s) → Bytes256 s
-  -- "Slots": bytes and what they hold, both ways
+  -- PROFILE 2: bytes and what they hold, both ways
   pub unpack-pack : (s : Slot) → SlotFits s → unpack (pack s) ≡ s
   pub pack-unpack : (s : Bytes) → length s ≡ slotSize → Bytes256 s → wellSlot s ≡ true → pack (unpack s) ≡ s
   pub unpacks : (table : Bytes) → Bytes256 table → wholeSlots table ≡ true → wellTable table ≡ true → Unpacks table
   pub packs : (t : List Slot) → TableFits t → distinct t ≡ true → 1 ≤ length t → length t ≤ 15 → Packs t
   pub apart : (t : List Slot) → (distinct t ≡ true) ↔ Apart t
-  -- "Frames": "A written request reads back to its fields. A frame that reads as a request is written again to the same bytes, but for a verdict of 0"
+  -- PROFILE 6.4: a request reads back to the fields written; a frame that reads as a request is written again to the same bytes, but for its verdict
   pub read-fits : (f : Bytes) (q : Request) → readRequest f ≡ asks q → RequestFits q
   pub read-write : (q : Request) → RequestFits q → readRequest (writeRequest q) ≡ asks q
   pub written-reads : (kind : ℕ) (f : Fields) (buffer : Bytes) → Arrays f → eqb (write kind f buffer .number) 0 ≡ true → ReadsBack kind f buffer (write kind f buffer)
   pub written-again : (f : Bytes) (q : Request) → Bytes256 f → readRequest f ≡ asks q → (buffer : Bytes) → length f ≤ length buffer → WrittenAgain f q buffer
-  -- every reply is read back
+  -- PROFILE 6.4: every reply is read back
   pub replies-read : (table : Bytes) (c : Call) → eqb (agent table c .number) 0 ≡ true → Readable table c (agent table c)
-  -- "Numbers and statuses": refusals change nothing; status 8 is never given; a well-formed table stays so
+  -- PROFILE 4: refusals change nothing; status 8 is never sent. PROFILE 2.5: a well-formed table stays so
   pub refuses : (table : Bytes) (c : Call) → Refuses table c (agent table c)
   pub never-8 : (table : Bytes) (c : Call) → eqb (agent table c .number) 0 ≡ true → eqb (statusIn (agent table c .reply)) 8 ≡ false
   pub stays-well : (table : Bytes) → Bytes256 table → wholeSlots table ≡ true → wellTable table ≡ true → (c : Call) → Stays (agent table c .table)
-  -- the slot found under a handle, the slot that a setup takes, the handles listed; no other slot and no other list meets these laws
+  -- PROFILE 5: the slot found under a handle, the slot that a setup takes, the handles listed; no other slot and no other list meets these laws
   pub found-is : (h : Bytes) (t : List Slot) → FoundIs h t (find h t)
   pub sets-lowest : (t : List Slot) (h : Bytes) (n : ℕ) (g : Given) (u : List Slot) → act (lowestEmpty t) t (setup h n) ≡ done g u → SetsLowest t h n u
   pub sets-only : (t : List Slot) (h : Bytes) (n : ℕ) (u : List Slot) → SetsLowest t h n u → u ≡ set t (lowestEmpty t) (taken h (reserved n))
   pub lists-exactly : (free : ℕ) (t : List Slot) (limit : ℕ) (q : List Bytes) → (g : Given) × (act free t (list limit q) ≡ done g t) × ListsExactly limit q t g
   pub lists-only : (free : ℕ) (t : List Slot) (limit : ℕ) (q : List Bytes) (g : Given) → ListsExactly limit q t g → act free t (list limit q) ≡ done g t
-  -- "Examples", and every rule in worked cases, table by table
+  -- PROFILE 9, and every rule in worked cases, table by table
   pub bytes-hold : BytesCases.Hold
   pub sizes-hold : SizeCases.Hold
   pub tables-hold : TableCases.Hold
@@ -109,5 +109,5 @@ pub record Theorems : Type 0 where
   pub listings-hold : ListingCases.Hold
   pub histories-hold : HistoryCases.Hold
   pub demands-hold : DemandCases.Hold
-  -- demand 3, of every table of 1 to 15 slots and every sequence of calls
+  -- PROFILE 8.3, of every table of 1 to 15 slots and every sequence of calls
   pub demand-3 : (n : ℕ) → 1 ≤ n → n ≤ 15 → (cs : List Call) → Demand3 n cs

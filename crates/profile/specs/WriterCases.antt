@@ -1,4 +1,4 @@
--- Document 01, "Device end and listing", in worked cases: what the request writer writes, and what it refuses.
+-- PROFILE 6.2, in worked cases: what the request writer writes, and what it refuses.
 use Prim.Native.Nat.{ℕ, _+_, _-_}
 use mathlib.Core.Path.{_≡_}
 use mathlib.Core.List.{List, [], _∷_, _++_, map}
@@ -22,7 +22,7 @@ buffer n = replicate n 0xAA
 abbrev pub outcome : Case → Written
 outcome c = write (c .kind) (c .fields) (buffer (c .room))
 
--- "the writer leaves the rest of its buffer as found"
+-- the frame at the start of the buffer, whose other bytes stay
 abbrev pub expected : Case → Written
 expected c = record { number = c .number; buffer = c .frame ++ buffer (c .room - length (c .frame)) }
 
@@ -39,7 +39,7 @@ writes kind f frame =
     ∷ refuses kind f 0 201
     ∷ []
 
--- ---- what a kind lacks: a handle, and a key
+-- ---- blank: a handle, and a key
 abbrev pub z10 : Bytes
 z10 = replicate 10 0x00
 
@@ -76,7 +76,7 @@ with-payload x f = record { handle = f .handle; new = f .new; key = f .key; room
 abbrev pub with-handle : Bytes → Fields → Fields
 with-handle x f = record { handle = x; new = f .new; key = f .key; room = f .room; count = f .count; limit = f .limit; hashes = f .hashes; payload = f .payload }
 
--- "a field that the kind lacks and that is not empty or zero": 202, though the buffer is too short; a byte of an array, the first and the last
+-- a field that the kind does not have and that is not blank: 202, though the buffer is too short; a byte of an array, the first and the last
 abbrev pub lacks : ℕ → Fields → List (Fields → Fields) → List Case
 lacks kind f [] = []
 lacks kind f (w ∷ ws) = refuses kind (w f) 0 202 ∷ lacks kind f ws
@@ -127,7 +127,7 @@ of6 = all-of h z10 z16 0 0 0 [] []
 abbrev pub of8 : Fields
 of8 = all-of z10 z10 z16 0 0 0x3536 p []
 
--- ---- the frame of each kind, with "the verdict as 1"
+-- ---- the frame of each kind, with the verdict 1
 unfoldable pub frames : List Case
 frames =
     writes 1 of1 (hex "21 80 00 0C" ++ h ++ hex "31 32")
@@ -147,13 +147,13 @@ frames =
 -- ---- 202
 unfoldable pub refusals : List Case
 refusals =
-    -- "kind not 1 to 9", though the buffer is too short
+    -- an unknown kind, also with a buffer too short
     refuses 0 of6 100 202
     ∷ refuses 10 of6 100 202
     ∷ refuses 31 of6 100 202
     ∷ refuses 33 of6 100 202
     ∷ refuses 0 of6 0 202
-    -- "hash bytes not a multiple of 20 up to 160": for kinds 2 and 8
+    -- hash bytes that are not whole hashes, or more than 8 of them: for kinds 2 and 8
     ∷ refuses 2 (with-hashes (take 19 p) of2) 300 202
     ∷ refuses 2 (with-hashes (p ++ hex "00") of2) 300 202
     ∷ refuses 2 (with-hashes (hex "00") of2) 300 202
@@ -162,7 +162,7 @@ refusals =
     ∷ refuses 8 (with-hashes (p ++ hex "00") of8) 300 202
     ∷ refuses 8 (with-hashes (eight ++ p) of8) 300 202
     ∷ refuses 8 (with-hashes (eight ++ p) of8) 0 202
-    -- "for kind 2 a payload not 1 to 4,096 bytes"
+    -- kind 2: no payload, and one of 4,097 bytes
     ∷ refuses 2 (with-payload [] of2) 300 202
     ∷ refuses 2 (with-payload (replicate 4097 0x5A) of2) 4200 202
     ∷ []
@@ -175,7 +175,7 @@ bounds =
     ++ writes 8 (with-hashes eight of8) (hex "28 80 00 A3 35 36 08" ++ eight)
     ++ take 1 (writes 2 (with-payload (replicate 4096 0x5A) of2) (hex "22 80 10 31" ++ h ++ key ++ hex "33 34 10" ++ p ++ replicate 4096 0x5A))
 
--- kind by kind, what it lacks
+-- kind by kind, the fields that it does not have
 unfoldable pub lacking : List Case
 lacking =
     lacks 1 of1 (some-new ++ some-key ++ some-count ++ some-limit ++ some-hashes ++ some-payload)

@@ -1,4 +1,4 @@
-// Where the fields of a slot stand (PROFILE 2.2). Byte 0 has the place and the hash count.
+// The offsets of the fields of a slot (PROFILE 2.2). Byte 0 has the place and the hash count.
 pub const HANDLE_AT: usize = 1;
 
 pub const KEY_AT: usize = 11;
