@@ -1,5 +1,5 @@
 -- Laws of bytes written over a part of a buffer. Assumes nothing.
-use mathlib.Core.Path.{_≡_, refl, sym, ap, _∙_}
+use mathlib.Core.Path.{_≡_, sym, ap, _∙_}
 use mathlib.Core.List.{_++_, append-assoc}
 use Prim.Native.Nat.{ℕ, _+_, _≤_}
 use native.Mathlib.Omega.{arith}
@@ -39,23 +39,11 @@ over-more xs ys d at n e h =
     let v : at + length (xs ++ ys) ≡ n + length ys = rw length-append (omega arith) in
     rw (t, u, v) (ap (λ (l : Bytes). l ++ drop (n + length ys) d) (append-assoc (take at d) xs ys))
 
--- what stands before, at and after the offset
+-- what stands after the bytes written
 module _ (xs d : Bytes) (at : ℕ) (h : at + length xs ≤ length d) where
-  pub over-before : take at (overAt at xs d) ≡ take at d
+  pub over-after : drop (at + length xs) (overAt at xs d) ≡ drop (at + length xs) d
   unfolding overAt
-  over-before =
-      rw (append-assoc (take at d) xs (drop (at + length xs) d))
-      (take-at (take at d) (xs ++ drop (at + length xs) d) at (length-take-le at d (omega arith)))
-
-  pub over-there : part at (length xs) (overAt at xs d) ≡ xs
-  unfolding overAt
-  over-there =
-      rw (append-assoc (take at d) xs (drop (at + length xs) d), drop-at (take at d) (xs ++ drop (at + length xs) d) at (length-take-le at d (omega arith)))
-      (take-at xs (drop (at + length xs) d) (length xs) refl)
-
-  pub over-behind : drop (at + length xs) (overAt at xs d) ≡ drop (at + length xs) d
-  unfolding overAt
-  over-behind = drop-at (take at d ++ xs) (drop (at + length xs) d) (at + length xs) (head-length xs d at (omega arith))
+  over-after = drop-at (take at d ++ xs) (drop (at + length xs) d) (at + length xs) (head-length xs d at (omega arith))
 
 -- a part of k bytes that was lent is back as y
 pub over-lent : (d y : Bytes) (at k : ℕ) → length y ≡ k → putMid at k d y ≡ overAt at y d

@@ -11,9 +11,9 @@ use Rattle.profile.proofs.Strings.{total}
 use Rattle.buffers.specs.Over.{overAt}
 
 -- after some bytes, writing goes on as if they were not there
-over-behind : (p d x : Bytes) (at : ℕ) → overAt (length p + at) x (p ++ d) ≡ p ++ overAt at x d
+over-after : (p d x : Bytes) (at : ℕ) → overAt (length p + at) x (p ++ d) ≡ p ++ overAt at x d
 unfolding overAt
-over-behind p d x at =
+over-after p d x at =
     rw (take-append-add p d at, add-assoc (length p) at (length x), drop-append-add p d (at + length x), append-assoc p (take at d) x, append-assoc p (take at d ++ x) (drop (at + length x) d))
 
 -- field i of some fields is written over by bytes of its length
@@ -23,7 +23,7 @@ unfolding overAt
 over-field [] i at x h e l = absurd (not-suc-le-zero h)
 over-field (p ∷ ps) zero at x h e l = rw (← e, zero-add (length x), drop-at p (joined ps) (length x) (sym l))
 over-field (p ∷ ps) (suc i) at x h e l =
-    rw (← e) (over-behind p (joined ps) x (total (take i (map length ps))) ∙ ap (λ (r : Bytes). p ++ r) (over-field ps i (total (take i (map length ps))) x (le-of-suc-le-suc h) refl l))
+    rw (← e) (over-after p (joined ps) x (total (take i (map length ps))) ∙ ap (λ (r : Bytes). p ++ r) (over-field ps i (total (take i (map length ps))) x (le-of-suc-le-suc h) refl l))
 
 -- a byte that is stored is a field of one byte
 pub over-byte : (s : Bytes) (b : ℕ) → 0 < length s → set s 0 b ≡ overAt 0 (b ∷ []) s

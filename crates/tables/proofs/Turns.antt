@@ -1,13 +1,13 @@
 -- One turn of each loop over the slots, and its end: what the slots from i on say, from slot i and the slots after it. Assumes nothing.
 use Prim.Native.Nat.{ℕ, suc, _+_, _*_, _≤_, _<_}
 use mathlib.Core.Path.{_≡_, refl, ap, _∙_}
-use mathlib.Core.List.{List, [], _∷_, _++_}
+use mathlib.Core.List.{List, _∷_}
 use mathlib.Core.Bool.{true, false, _&&_, not}
 use lib.ListN.{drop}
 use Rattle.profile.specs.Bytes.{Bytes, part, all}
 use Rattle.profile.specs.Slot.{Slot, empty, taken, named, inUse, distinct}
 use Rattle.profile.specs.Table.{placeOf, unpack, wellSlot, slotCount, slotBytes, slotsOf}
-use Rattle.profile.specs.Agent.{lowestEmpty, listedSlot, listed}
+use Rattle.profile.specs.Agent.{lowestEmpty}
 use Rattle.slots.proofs.Turns.{all-pass, all-stop}
 use Rattle.slots.proofs.Unpacking.{unpack-empty, unpack-taken}
 use Rattle.tables.specs.Again.{again}
@@ -62,9 +62,6 @@ module _ (t : Bytes) (i : ℕ) (h : i < slotCount t) (s : Bytes) (e : s ≡ part
   unfolding firstUnder
   under-pass k p = rw (slots-from, p)
 
-  pub listed-pass : (q : List Bytes) → listed q (drop i (slotsOf t)) ≡ listedSlot q (unpack s) ++ listed q (drop (i + 1) (slotsOf t))
-  listed-pass q = rw slots-from
-
 -- ---- after the last slot
 module _ (t : Bytes) (i : ℕ) (h : slotCount t ≤ i) where
   pub well-end : all wellSlot (drop i (slotBytes t)) ≡ true
@@ -79,6 +76,3 @@ module _ (t : Bytes) (i : ℕ) (h : slotCount t ≤ i) where
   pub under-end : (k : Bytes) → firstUnder k (drop i (slotsOf t)) ≡ 0
   unfolding firstUnder
   under-end k = rw (slots-end t i h)
-
-  pub listed-end : (q : List Bytes) → listed q (drop i (slotsOf t)) ≡ []
-  listed-end q = rw (slots-end t i h)
