@@ -1,5 +1,7 @@
 // The fields of a slot, written where they stand; all other bytes stay.
 use profile::Count;
+use profile::sizes::HANDLE_BYTES;
+use profile::sizes::KEY_BYTES;
 use profile::slot::COUNT_AT;
 use profile::slot::HANDLE_AT;
 use profile::slot::HASHES_AT;
@@ -32,7 +34,7 @@ pub fn put_place(s: &mut [u8], place: u8)
 }
 
 // Place, hash count and handle.
-pub fn put_label(s: &mut [u8], place: u8, hashes: u8, h: [u8; 10])
+pub fn put_label(s: &mut [u8], place: u8, hashes: u8, h: [u8; HANDLE_BYTES])
     requires { ⌜ (place < 4) × (hashes < 16) × (keyAt ≤ length (now s)) ⌝ }
     ensures { λ _. ⌜ now (s .exit) ≡ overAt handleAt h (overAt 0 ((64 * place + 4 * hashes) ∷ []) (now (s .entry))) ⌝ }
 {
@@ -41,7 +43,7 @@ pub fn put_label(s: &mut [u8], place: u8, hashes: u8, h: [u8; 10])
 }
 
 // Key, count and payload length.
-pub fn put_terms(s: &mut [u8], key: [u8; 16], count: Count, n: u16)
+pub fn put_terms(s: &mut [u8], key: [u8; KEY_BYTES], count: Count, n: u16)
     requires { ⌜ hashesAt ≤ length (now s) ⌝ }
     ensures { λ _. ⌜ now (s .exit) ≡ overAt lengthAt (word-bytes n) (overAt countAt (word-bytes count) (overAt keyAt key (now (s .entry)))) ⌝ }
 {

@@ -1,6 +1,8 @@
 // Every change of one slot in the middle of the lent table. The slot's part is lent on to a function that clears it or
 // stores into it; no byte of another slot changes, and no slot is copied.
 use profile::Count;
+use profile::sizes::HANDLE_BYTES;
+use profile::sizes::KEY_BYTES;
 use profile::sizes::SLOT_BYTES;
 ghost use mathlib.Core.Path.{_≡_};
 ghost use Prim.Native.Nat.{_+_, _*_, _≤_};
@@ -24,7 +26,7 @@ pub fn clear_slot(t: &mut [u8], i: usize)
 }
 
 // PROFILE 5.1: an empty slot becomes a reservation, whose length is the room asked for.
-pub fn store_reservation(t: &mut [u8], i: usize, h: [u8; 10], n: u16)
+pub fn store_reservation(t: &mut [u8], i: usize, h: [u8; HANDLE_BYTES], n: u16)
     requires { ⌜ Has (now t) i × (placeOf (slotAt (now t) i) ≡ 0) ⌝ }
     ensures { λ _. ⌜ now (t .exit) ≡ tableOf (set (slotsOf (now (t .entry))) i (taken h (reserved n))) ⌝ }
 {
@@ -38,8 +40,8 @@ pub fn store_reservation(t: &mut [u8], i: usize, h: [u8; 10], n: u16)
 pub fn store_right(
     t: &mut [u8],
     i: usize,
-    h: [u8; 10],
-    key: [u8; 16],
+    h: [u8; HANDLE_BYTES],
+    key: [u8; KEY_BYTES],
     count: Count,
     hashes: usize,
     src: &[u8],
@@ -55,7 +57,7 @@ pub fn store_right(
 }
 
 // PROFILE 5.3, 5.4: the record is disabled under the new handle, and nothing else of it changes.
-pub fn relabel(t: &mut [u8], i: usize, k: [u8; 10])
+pub fn relabel(t: &mut [u8], i: usize, k: [u8; HANDLE_BYTES])
     requires { ⌜ Has (now t) i × (placeOf (slotAt (now t) i) ≡ 2) ⌝ }
     ensures { λ _. ⌜ now (t .exit) ≡ tableOf (set (slotsOf (now (t .entry))) i (taken k (disabled (rightOf (slotAt (now (t .entry)) i))))) ⌝ }
 {

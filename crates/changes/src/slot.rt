@@ -3,7 +3,9 @@ use profile::Count;
 use profile::place::DISABLED;
 use profile::place::ENABLED;
 use profile::place::RESERVED;
+use profile::sizes::HANDLE_BYTES;
 use profile::sizes::HASH_BYTES;
+use profile::sizes::KEY_BYTES;
 use profile::slot::COUNT_AT;
 use profile::slot::HANDLE_AT;
 use profile::slot::LENGTH_AT;
@@ -16,7 +18,7 @@ ghost use Rattle.profile.specs.Table.{handleOf, rightOf, pack};
 ghost use Rattle.changes.specs.Change.{Placed, rightFrom};
 
 // All bytes of an empty slot are zero, so place, handle and length are all there is to write.
-pub fn reserve(s: &mut [u8], h: [u8; 10], n: u16)
+pub fn reserve(s: &mut [u8], h: [u8; HANDLE_BYTES], n: u16)
     requires { ⌜ Placed 0 (now s) ⌝ }
     ensures { λ _. ⌜ now (s .exit) ≡ pack (taken h (reserved n)) ⌝ }
 {
@@ -27,8 +29,8 @@ pub fn reserve(s: &mut [u8], h: [u8; 10], n: u16)
 // The bytes of a reservation after its length are zero, so those after the hashes and after the payload need no writing.
 pub fn install(
     s: &mut [u8],
-    h: [u8; 10],
-    key: [u8; 16],
+    h: [u8; HANDLE_BYTES],
+    key: [u8; KEY_BYTES],
     count: Count,
     hashes: usize,
     src: &[u8],
@@ -44,7 +46,7 @@ pub fn install(
 }
 
 // The place's two bits and the handle: the right itself stays.
-pub fn lend(s: &mut [u8], k: [u8; 10])
+pub fn lend(s: &mut [u8], k: [u8; HANDLE_BYTES])
     requires { ⌜ Placed 2 (now s) ⌝ }
     ensures { λ _. ⌜ now (s .exit) ≡ pack (taken k (disabled (rightOf (now (s .entry))))) ⌝ }
 {

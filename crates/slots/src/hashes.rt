@@ -1,5 +1,7 @@
 // The hashes of a record against those of a list query (PROFILE 5.8).
 use crate::place::Place;
+use profile::sizes::HASH_BYTES;
+use profile::sizes::MOST_HASHES;
 use profile::slot::GAP_AT;
 use profile::slot::HASHES_AT;
 ghost use mathlib.Core.Path.{_≡_};
@@ -12,7 +14,7 @@ ghost use Rattle.profile.specs.Table.{unpack, hashCountOf, handleOf, rightOf};
 ghost use Rattle.profile.specs.Agent.{listedSlot};
 
 // Whether a query's hash is one of the record's, which are read from the slot one after another, without a copy of the list.
-fn has_hash(bytes: &[u8], count: usize, asked: [u8; 20]) -> bool
+fn has_hash(bytes: &[u8], count: usize, asked: [u8; HASH_BYTES]) -> bool
     requires { ⌜ hashSize * count ≤ length (now bytes) ⌝ }
     ensures { λ r. ⌜ r ≡ any (same asked) (pieces hashSize count (now (bytes .entry))) ⌝ }
 {
@@ -28,7 +30,7 @@ fn has_hash(bytes: &[u8], count: usize, asked: [u8; 20]) -> bool
 }
 
 // Whether one of the query's n hashes is one of the record's.
-fn has_one_of(bytes: &[u8], count: usize, q: [[u8; 20]; 8], n: usize) -> bool
+fn has_one_of(bytes: &[u8], count: usize, q: [[u8; HASH_BYTES]; MOST_HASHES], n: usize) -> bool
     requires { ⌜ (n ≤ mostHashes) × (hashSize * count ≤ length (now bytes)) ⌝ }
     ensures { λ r. ⌜ r ≡ any (λ x. any (same x) (pieces hashSize count (now (bytes .entry)))) (take n q) ⌝ }
 {
@@ -43,7 +45,7 @@ fn has_one_of(bytes: &[u8], count: usize, q: [[u8; 20]; 8], n: usize) -> bool
 }
 
 // Whether one of the record's hashes is one of the query's n. If the record has no hash, the query is neither looked at nor copied.
-pub fn has_some(s: &[u8], q: [[u8; 20]; 8], n: usize) -> bool
+pub fn has_some(s: &[u8], q: [[u8; HASH_BYTES]; MOST_HASHES], n: usize) -> bool
     requires { ⌜ (n ≤ mostHashes) × (length (now s) ≡ slotSize) × (hashCountOf (now s) ≤ mostHashes) ⌝ }
     ensures { λ r. ⌜ r ≡ any (λ x. any (same x) (rightOf (now (s .entry)) .hashes)) (take n q) ⌝ }
 {
@@ -55,7 +57,7 @@ pub fn has_some(s: &[u8], q: [[u8; 20]; 8], n: usize) -> bool
 }
 
 // Whether the record goes into the list: it is enabled, and has one of the query's hashes or the query has none.
-pub fn is_listed(s: &[u8], q: [[u8; 20]; 8], n: usize) -> bool
+pub fn is_listed(s: &[u8], q: [[u8; HASH_BYTES]; MOST_HASHES], n: usize) -> bool
     requires { ⌜ (n ≤ mostHashes) × (length (now s) ≡ slotSize) × (hashCountOf (now s) ≤ mostHashes) ⌝ }
     ensures { λ r. ⌜ listedSlot (take n q) (unpack (now (s .entry))) ≡ (if r then handleOf (now (s .entry)) ∷ [] else []) ⌝ }
 {

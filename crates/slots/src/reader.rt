@@ -10,7 +10,7 @@ struct HashReader<'a> {
 }
 
 // The hash at a position of some hash bytes, by value.
-fn nth_hash(bytes: &[u8], at: usize) -> [u8; 20]
+fn nth_hash(bytes: &[u8], at: usize) -> [u8; HASH_BYTES]
     requires { ⌜ HashStands at (now bytes) ⌝ }
     ensures { λ r. ⌜ r ≡ hashAt at (now (bytes .entry)) ⌝ }
 {
@@ -25,7 +25,7 @@ fn reader_at<'a>(bytes: &'a [u8], at: usize) -> HashReader<'a>
 }
 
 // The hash at the reader's position.
-fn read<'a>(reader: HashReader<'a>) -> [u8; 20]
+fn read<'a>(reader: HashReader<'a>) -> [u8; HASH_BYTES]
     requires { ⌜ Reads reader ⌝ }
     ensures { λ r. ⌜ r ≡ hashRead (reader .entry) ⌝ }
 {
@@ -33,7 +33,7 @@ fn read<'a>(reader: HashReader<'a>) -> [u8; 20]
 }
 
 // Hash i of a slot's hash bytes, counted from 0, through a reader of them.
-pub(crate) fn hash_of(bytes: &[u8], i: usize) -> [u8; 20]
+pub(crate) fn hash_of(bytes: &[u8], i: usize) -> [u8; HASH_BYTES]
     requires { ⌜ HashStands i (now bytes) ⌝ }
     ensures { λ r. ⌜ r ≡ hashAt i (now (bytes .entry)) ⌝ }
 {

@@ -1,5 +1,6 @@
 // Slots under a handle. Handles are compared where they stand in their slots, up to the first byte that differs.
 use crate::part::slot_at;
+use profile::sizes::HANDLE_BYTES;
 use profile::sizes::SLOT_BYTES;
 use profile::slot::HANDLE_AT;
 ghost use mathlib.Core.Path.{_≡_};
@@ -50,7 +51,7 @@ pub(crate) fn in_use_from(t: &[u8], h: &[u8], from: usize) -> bool
 }
 
 // Whether any slot that is not empty has the handle, whatever its place: status 5 (PROFILE 4.2).
-pub fn in_use(t: &[u8], h: [u8; 10]) -> bool
+pub fn in_use(t: &[u8], h: [u8; HANDLE_BYTES]) -> bool
     ensures { λ r. ⌜ r ≡ inUse h (slotsOf (now (t .entry))) ⌝ }
 {
     in_use_from(t, &h, 0)

@@ -1,4 +1,5 @@
 // The record under a handle.
+use profile::sizes::HANDLE_BYTES;
 use profile::sizes::SLOT_BYTES;
 use slots::place::Place;
 ghost use mathlib.Core.Path.{_≡_};
@@ -13,7 +14,7 @@ pub enum Lookup {
 }
 
 // The record under the request's handle; that two slots have it is found before that none has (PROFILE 4.2, statuses 8 and 4).
-pub fn look_up(t: &[u8], h: [u8; 10]) -> Lookup
+pub fn look_up(t: &[u8], h: [u8; HANDLE_BYTES]) -> Lookup
     ensures { λ r. ⌜ r ≡ lookUp h (slotsOf (now (t .entry))) ⌝ }
 {
     let i = crate::handle::first_under(t, &h, 0);
