@@ -5,7 +5,7 @@ use mathlib.Core.Bool.{Bool, true, false, _&&_, not}
 use Prim.Native.Nat.{ℕ, zero, suc, _≤_, _<_}
 use borrow.Author.Tests.{eq-eqb, ne-eqb, lt-ltb, le-ltb, not-true, not-false}
 use Rattle.profile.specs.Bytes.{Bytes}
-use Rattle.profile.specs.Frame.{Kind, kindOf, isFrame, versionHolds, kindNumber, body, statusIn}
+use Rattle.profile.specs.Frame.{Kind, kindOf, lastStatus, isFrame, versionHolds, kindNumber, body, statusIn}
 use Rattle.profile.specs.Device.{none?, shaped}
 use Rattle.reply_reader.specs.declared.answer.Answer.{Answer}
 use Rattle.reply_reader.specs.declared.answer.Answer.the-variants.{Failed}
@@ -62,14 +62,14 @@ module _ (f : Bytes) {p : Bool} {r : Told} (e : p ≡ (isFrame f && versionHolds
   unfolding told
   told-no-frame h q = q ∙ rw (failed-test e h)
 
-  pub told-no-status : not p ≡ false → 8 < statusIn f → r ≡ unread → r ≡ told f
+  pub told-no-status : not p ≡ false → lastStatus < statusIn f → r ≡ unread → r ≡ told f
   unfolding told
-  told-no-status h s q = q ∙ rw (passed e h, lt-ltb 8 (statusIn f) s)
+  told-no-status h s q = q ∙ rw (passed e h, lt-ltb lastStatus (statusIn f) s)
 
-  pub told-success : {k : ℕ} → not p ≡ false → statusIn f ≤ 8 → statusIn f ≡ 0 → k ≡ kindNumber f → r ≡ toldSuccess (kindOf k) f → r ≡ told f
+  pub told-success : {k : ℕ} → not p ≡ false → statusIn f ≤ lastStatus → statusIn f ≡ 0 → k ≡ kindNumber f → r ≡ toldSuccess (kindOf k) f → r ≡ told f
   unfolding told
-  told-success h s z n q = q ∙ rw (passed e h, le-ltb 8 (statusIn f) s, eq-eqb (statusIn f) 0 z, n)
+  told-success h s z n q = q ∙ rw (passed e h, le-ltb lastStatus (statusIn f) s, eq-eqb (statusIn f) 0 z, n)
 
-  pub told-failed : {k : ℕ} → not p ≡ false → statusIn f ≤ 8 → (statusIn f ≡ 0 → ⊥) → k ≡ kindNumber f → r ≡ toldEmpty (Failed k (statusIn f)) f → r ≡ told f
+  pub told-failed : {k : ℕ} → not p ≡ false → statusIn f ≤ lastStatus → (statusIn f ≡ 0 → ⊥) → k ≡ kindNumber f → r ≡ toldEmpty (Failed k (statusIn f)) f → r ≡ told f
   unfolding told
-  told-failed h s z n q = q ∙ rw (passed e h, le-ltb 8 (statusIn f) s, ne-eqb (statusIn f) 0 z, n)
+  told-failed h s z n q = q ∙ rw (passed e h, le-ltb lastStatus (statusIn f) s, ne-eqb (statusIn f) 0 z, n)
