@@ -6,6 +6,7 @@ use native.Mathlib.Omega.{arith}
 use native.Mathlib.Nat.{zero-add}
 use lib.ListN.{length, length-append}
 use Rattle.profile.specs.Bytes.{Bytes, over}
+use Rattle.profile.specs.Sizes.{tableLength, tableNotWellFormed}
 use Rattle.profile.specs.Table.{wholeSlots, wellTable}
 use Rattle.profile.specs.Listing.{header, listing}
 use Rattle.buffers.proofs.Overlays.{over-start}
@@ -17,11 +18,11 @@ module _ (t : Bytes) {d d' : Bytes} {end : ℕ} where
   listed : {xs : Bytes} → xs ≡ listing t → Wrote xs 0 d d' end → (end ≡ length (listing t)) × (d' ≡ over (listing t) d)
   listed {xs} e w = rw (← e) (w .ends ∙ zero-add (length xs), w .written ∙ over-start xs d)
 
-  pub listed-102 : wholeSlots t ≡ false → Wrote (refusal 102) 0 d d' end → (end ≡ length (listing t)) × (d' ≡ over (listing t) d)
+  pub listed-102 : wholeSlots t ≡ false → Wrote (refusal tableLength) 0 d d' end → (end ≡ length (listing t)) × (d' ≡ over (listing t) d)
   unfolding listing refusal
   listed-102 whole = listed (rw whole)
 
-  pub listed-103 : wholeSlots t ≡ true → wellTable t ≡ false → Wrote (refusal 103) 0 d d' end → (end ≡ length (listing t)) × (d' ≡ over (listing t) d)
+  pub listed-103 : wholeSlots t ≡ true → wellTable t ≡ false → Wrote (refusal tableNotWellFormed) 0 d d' end → (end ≡ length (listing t)) × (d' ≡ over (listing t) d)
   unfolding listing refusal
   listed-103 whole well = listed (rw (whole, well))
 
