@@ -124,8 +124,8 @@ module _ (t b : Bytes) (at : ℕ) (fit : Listable t) (room : at + 25 * mostSlots
       short-next = omega (arith, length-most-4096 s well-s)
 
       -- what the next line asks, and what holds after it
-      pub line-asks : length s ≡ slotSize → (i < 100) × (length s ≡ slotSize) × (hashCountOf s < 10) × (lengthOf s < 10000) × (next + 25 ≤ length d)
-      line-asks l = (omega (arith, index-few), l, few-next, short-next, room-next)
+      pub line-asks : (i < mostSlots) × (hashCountOf s < 10) × (lengthOf s < 10000) × (next + 25 ≤ length d)
+      line-asks = (index-few, few-next, short-next, room-next)
 
       pub pass-next : (d' : Bytes) (next' : ℕ) → Wrote (lineOf i s) next d d' next' → Passed t b at (i + 1) d' next'
       pass-next d' next' w =

@@ -27,8 +27,10 @@ put-line-requires c κs =
     let l = c .before .before .before in
     let start = l .before .before .before in
     let s = c .slot-at in
+    let asks =
     line-asks (now (start .args .table)) (now (start .args .out)) (start .args .at) (start .pre .0) (start .pre .1) (l .loop .i) (l .loop .next) (l .loop .out)
-    (c .before .before .loop-test .taken) (l .loop .inv .1) (now (s .result)) (s .ensures .0) (s .ensures .1)
+    (c .before .before .loop-test .taken) (l .loop .inv .1) (now (s .result)) (s .ensures .0) in
+    (omega arith, s .ensures .1, asks .1, asks .2, asks .3)
 
 add-i : tie.Need-add-i Inv-loop μ-loop
 add-i c = search needs
