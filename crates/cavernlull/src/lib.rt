@@ -1,5 +1,7 @@
 // What a front end or a device links: four functions under C's calling convention, declared for C in include/cavernlull.h. In C a slice is
-// a pointer and then a length, and an array is a pointer. Any bytes and any lengths may be lent: no function asks anything of them.
+// a pointer and then a length, and an array is a pointer. Any bytes and any lengths may be lent. What is lent to be changed shares no byte
+// with anything else that is lent in the same call.
+use crate::numbers::REPLY_NUMBERS;
 use listing::LISTING_ROOM;
 use profile::Count;
 use profile::number::DONE;
@@ -63,7 +65,7 @@ pub extern "C" fn cavernlull_write_request(
 pub extern "C" fn cavernlull_read_reply(
     frame: &[u8],
     key: &mut [u8; KEY_BYTES],
-    fields: &mut [u16; 10],
+    fields: &mut [u16; REPLY_NUMBERS],
 ) -> u16
     ensures { λ r. ⌜ ReadsInto (now (frame .entry)) (now (key .entry)) (now (fields .entry)) (left r (now (key .exit)) (now (fields .exit))) ⌝ }
 {

@@ -6,15 +6,24 @@ ghost use mathlib.Core.Path.{_≡_};
 ghost use Prim.Native.Nat.{_<_};
 ghost use Rattle.cavernlull.specs.Numbers.{numbers, Small, ofStatus, ofRight, ofHandles, ofCounted};
 
+// How many numbers tell a reply.
+pub const REPLY_NUMBERS: usize = 10;
+
 // A status, or a success without a body or with a key alone.
-fn of_status(kind: u8, status: u8) -> [u16; 10]
+fn of_status(kind: u8, status: u8) -> [u16; REPLY_NUMBERS]
     ensures { λ r. ⌜ r ≡ ofStatus kind status ⌝ }
 {
     [kind as u16, status as u16, 0, 0, 0, 0, 0, 0, 0, 0]
 }
 
 // A right, of kind 3.
-fn of_right(count: Count, hashes: usize, hashes_at: usize, at: usize, size: usize) -> [u16; 10]
+fn of_right(
+    count: Count,
+    hashes: usize,
+    hashes_at: usize,
+    at: usize,
+    size: usize,
+) -> [u16; REPLY_NUMBERS]
     requires { ⌜ (hashes < 65536) × («hashes_at» < 65536) × (at < 65536) × (size < 65536) ⌝ }
     ensures { λ r. ⌜ r ≡ ofRight count hashes «hashes_at» at size ⌝ }
 {
@@ -33,7 +42,7 @@ fn of_right(count: Count, hashes: usize, hashes_at: usize, at: usize, size: usiz
 }
 
 // A list of handles, of kind 8.
-fn of_handles(more: bool, handles: usize, at: usize) -> [u16; 10]
+fn of_handles(more: bool, handles: usize, at: usize) -> [u16; REPLY_NUMBERS]
     requires { ⌜ (handles < 65536) × (at < 65536) ⌝ }
     ensures { λ r. ⌜ r ≡ ofHandles more handles at ⌝ }
 {
@@ -41,7 +50,7 @@ fn of_handles(more: bool, handles: usize, at: usize) -> [u16; 10]
 }
 
 // A count and a payload, of kind 9.
-fn of_counted(count: Count, at: usize, size: usize) -> [u16; 10]
+fn of_counted(count: Count, at: usize, size: usize) -> [u16; REPLY_NUMBERS]
     requires { ⌜ (at < 65536) × (size < 65536) ⌝ }
     ensures { λ r. ⌜ r ≡ ofCounted count at size ⌝ }
 {
@@ -49,7 +58,7 @@ fn of_counted(count: Count, at: usize, size: usize) -> [u16; 10]
 }
 
 // The numbers of every answer. What a reply lacks is 0.
-pub fn numbers_of(answer: Answer) -> [u16; 10]
+pub fn numbers_of(answer: Answer) -> [u16; REPLY_NUMBERS]
     requires { ⌜ Small answer ⌝ }
     ensures { λ r. ⌜ r ≡ numbers answer ⌝ }
 {

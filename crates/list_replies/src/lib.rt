@@ -13,7 +13,7 @@ use profile::status::SUCCESS;
 
 // A slot's handle goes after k others.
 pub fn put_handle(reply: &mut [u8], k: usize, slot: &[u8])
-    requires { ⌜ (15 + handleSize * k ≤ length (now reply)) × (handleAt + handleSize ≤ length (now slot)) ⌝ }
+    requires { ⌜ (5 + handleSize + handleSize * k ≤ length (now reply)) × (handleAt + handleSize ≤ length (now slot)) ⌝ }
     ensures { λ _. ⌜ now (reply .exit) ≡ overAt (5 + handleSize * k) (handleOf (now (slot .entry))) (now (reply .entry)) ⌝ }
 {
     buffers::put_part(reply, 5 + HANDLE_BYTES * k, slot, HANDLE_AT, HANDLE_BYTES);

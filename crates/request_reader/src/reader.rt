@@ -1,6 +1,6 @@
 // The request reader (PROFILE 6.1): first 104, then the tests for all kinds (PROFILE 4.3), then the field tests of kinds 2 and 8.
 ghost use mathlib.Core.Path.{_≡_};
-ghost use Prim.Native.Nat.{_+_, _≤_};
+ghost use Prim.Native.Nat.{_+_, _*_, _≤_};
 ghost use lib.ListN.{length};
 ghost use lib.Dec.{eqb, leb};
 ghost use Rattle.profile.specs.Sizes.{handleSize};
@@ -17,7 +17,9 @@ use profile::sizes::HASH_BYTES;
 use profile::sizes::MOST_HASHES;
 use profile::sizes::MOST_PAYLOAD;
 
-// A byte as a count.
+const TWO_HANDLES: usize = 2 * HANDLE_BYTES;
+
+// A byte as a length.
 fn wide(b: u8) -> usize
     ensures { λ r. ⌜ r ≡ b ⌝ }
 {
@@ -45,12 +47,12 @@ fn read_one(f: &[u8], n: usize, size: usize, verdict: u8, body: Body) -> Asked
     crate::asked::with_handle(f, body)
 }
 
-// Kinds 3 and 4: a handle and the new handle, 20 bytes.
+// Kinds 3 and 4: a handle and the new handle.
 fn read_two(f: &[u8], n: usize, verdict: u8, body: Body) -> Asked
     requires { ⌜ length (now f) ≡ 4 + n ⌝ }
-    ensures { λ r. ⌜ r ≡ tested (eqb n 20) verdict (twoHandles (now (f .entry)) body) ⌝ }
+    ensures { λ r. ⌜ r ≡ tested (eqb n (2 * handleSize)) verdict (twoHandles (now (f .entry)) body) ⌝ }
 {
-    if n != 20 {
+    if n != TWO_HANDLES {
         return crate::asked::refuse(Why::Parameter);
     }
     if verdict == 0 {

@@ -17,8 +17,10 @@ use profile::number::WRITER_BUFFER_SHORT;
 use profile::sizes::HANDLE_BYTES;
 use profile::sizes::KEY_BYTES;
 
-// A handle, as a body length counts it.
+// A handle and two of them, as a body length counts them.
 const HANDLE_LENGTH: u16 = HANDLE_BYTES as u16;
+
+const HANDLES_LENGTH: u16 = 2 * HANDLE_LENGTH;
 
 // The head of a body of n bytes, with the verdict 1 above seven zero bits.
 fn request_head(kind: u8, n: u16) -> [u8; 4]
@@ -73,7 +75,7 @@ pub fn write_two(
     if out.len() < 24 {
         return WRITER_BUFFER_SHORT;
     }
-    put_handle(out, kind, 20, handle);
+    put_handle(out, kind, HANDLES_LENGTH, handle);
     buffers::put_bytes(out, 14, &new);
     DONE
 }
