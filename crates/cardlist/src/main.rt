@@ -5,7 +5,7 @@ use listing::LISTING_ROOM;
 use profile::sizes::MOST_SLOTS;
 use profile::sizes::SLOT_BYTES;
 
-// One byte more than the largest table is enough to know that the input is none, which is 102.
+// The most that is read: one byte more than the largest table, which is enough to see that the input is too long (102).
 const MOST_READ: usize = MOST_SLOTS * SLOT_BYTES + 1;
 
 // Reads, lists and prints.

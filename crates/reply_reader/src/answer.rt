@@ -6,7 +6,7 @@ use profile::number::DONE;
 use profile::number::NOT_A_REPLY;
 use profile::sizes::KEY_BYTES;
 
-// What a reply tells (PROFILE 6.3). `Malformed` is the number 203. Offsets count from the frame's first byte. What each case means
+// The cases of a reply (PROFILE 6.3). `Malformed` is the number 203. Offsets count from the frame's first byte. What each case means
 // is said by `meaning` in specs/Told.
 pub enum Answer {
     Malformed,

@@ -17,14 +17,14 @@ const MOST_LISTED: usize = HANDLE_BYTES * MOST_SLOTS;
 
 const MOST_INFO: usize = 6 + MOST_PAYLOAD;
 
-// A byte as a length.
+// A byte, widened.
 pub fn wide8(n: u8) -> usize
     ensures { λ r. ⌜ r ≡ n ⌝ }
 {
     n as usize
 }
 
-// A body length as a length.
+// A word, widened.
 fn wide16(n: u16) -> usize
     ensures { λ r. ⌜ r ≡ n ⌝ }
 {

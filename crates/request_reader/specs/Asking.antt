@@ -34,7 +34,7 @@ unfoldable pub listQuery : Bytes → ℕ → Asked
 listQuery f n = record { ask = ask.Yes (body.List (word 4 f) n 7); handle = zeros handleSize; new = zeros handleSize; key = zeros keySize }
 
 -- ---- the tests of a body of n bytes, by its kind
--- 2 where the body's length is not one of its kind, then 1 where the verdict is 0
+-- 2 where the body's length is not its kind's, then 1 where the verdict is 0
 abbrev pub tested : Bool → ℕ → Asked → Asked
 tested fits v a =
     if not fits then refusal why.Parameter

@@ -9,7 +9,7 @@ use profile::Count;
 use profile::sizes::HANDLE_BYTES;
 use profile::sizes::KEY_BYTES;
 
-// Why a frame is no request: the number 104, or the status 1, 2 or 3 (PROFILE 4.3).
+// Why a frame is no request: the number 104, or the status 1, 2 or 3 (PROFILE 4.1 and 4.3).
 pub enum Why {
     NoFrame,
     Integrity,

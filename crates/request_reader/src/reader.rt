@@ -17,23 +17,24 @@ use profile::sizes::HASH_BYTES;
 use profile::sizes::MOST_HASHES;
 use profile::sizes::MOST_PAYLOAD;
 
+// The body length of kinds 3 and 4.
 const TWO_HANDLES: usize = 2 * HANDLE_BYTES;
 
-// A byte as a length.
+// A byte, widened.
 fn wide(b: u8) -> usize
     ensures { λ r. ⌜ r ≡ b ⌝ }
 {
     b as usize
 }
 
-// A body length as a length.
+// A word, widened.
 fn wide_word(n: u16) -> usize
     ensures { λ r. ⌜ r ≡ n ⌝ }
 {
     n as usize
 }
 
-// Kinds 6, 7 and 9: a handle. Kinds 1 and 5 have a word after it, which is read before and is in `body`.
+// Kinds 6, 7 and 9: a handle. Kinds 1 and 5 too: the word after the handle is in `body` already. `size` is the kind's body length.
 fn read_one(f: &[u8], n: usize, size: usize, verdict: u8, body: Body) -> Asked
     requires { ⌜ (length (now f) ≡ 4 + n) × (handleSize ≤ size) ⌝ }
     ensures { λ r. ⌜ r ≡ tested (eqb n size) verdict (oneHandle (now (f .entry)) body) ⌝ }

@@ -58,7 +58,7 @@ fn payload_fits(s: &[u8]) -> bool
     (0 < s.len()) & (s.len() <= MOST_PAYLOAD)
 }
 
-// The kind must be 1 to 9, and every field that it lacks empty or zero.
+// The kind must be 1 to 9, and every field that it lacks must be empty or zero; kind 2 must have a payload that fits.
 pub fn kind_allows(kind: u8, p: Plain, hashes: &[u8], payload: &[u8]) -> bool
     ensures { λ r. ⌜ r ≡ kindAllows (kindOf kind) (fieldsOf p (now (hashes .entry)) (now (payload .entry))) ⌝ }
 {
