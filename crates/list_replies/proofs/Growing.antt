@@ -39,7 +39,8 @@ module _ (hs : List Bytes) (n : ℕ) (b : Bytes) (each : Each handleSize hs) (co
   hold-length = let s = size in over-length (joined hs) b 5 (omega arith)
 
   -- after `put_handle`
-  pub hold-more : {d d' : Bytes} (h : Bytes) → length h ≡ handleSize → 5 + handleSize + handleSize * n ≤ length b → d ≡ holding hs b → d' ≡ overAt (5 + handleSize * n) h d → d' ≡ holding (hs ++ (h ∷ [])) b
+  pub hold-more : {d d' : Bytes} (h : Bytes) → length h ≡ handleSize → 5 + handleSize + handleSize * n ≤ length b → d ≡ holding hs b
+      → d' ≡ overAt (5 + handleSize * n) h d → d' ≡ holding (hs ++ (h ∷ [])) b
   unfolding holding
   hold-more h e f p q =
       let s = size in
