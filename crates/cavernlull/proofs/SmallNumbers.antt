@@ -1,5 +1,5 @@
 -- Whatever frame is read, each number told of it has 16 bits. Assumes nothing.
-use Prim.Native.Nat.{_+_, _-_, _/_, _%_, _<_}
+use Prim.Native.Nat.{_+_, _-_, _*_, _/_, _%_, _<_}
 use mathlib.Core.Path.{_≡_, refl, _∙_}
 use mathlib.Core.Option.{Option, none, some}
 use mathlib.Core.Bool.{true, _&&_, not}
@@ -7,6 +7,7 @@ use native.Mathlib.Omega.{arith}
 use lib.Dec.{eqb, leb, ltb}
 use lib.ListN.{length}
 use Rattle.profile.specs.Bytes.{Bytes, byte}
+use Rattle.profile.specs.Sizes.{mostSlots, mostPayload, handleSize, mostHashes}
 use Rattle.profile.specs.Frame.{Kind, Setup, Install, Retrieve, Rek, Enable, Remove, Cancel, List', Info, kindOf, lastStatus, isFrame, versionHolds, kindNumber, body, statusIn}
 use Rattle.profile.specs.Device.{none?, shaped}
 use Rattle.profile.proofs.Logic.{and-parts, leb-le, if-both, if-cases}
@@ -23,21 +24,21 @@ module _ (f : Bytes) where
   right-small e =
       let n = byte 22 f / 16 in
       let room = right-room f e in
-      let all = and-parts (leb n 8 && eqb (byte 22 f % 16) 0 && ltb (payloadFrom f) (length f)) (leb (length f) (payloadFrom f + 4096)) (right-tests f (room .0) refl refl ∙ e) in
-      let fields = and-parts (leb n 8 && eqb (byte 22 f % 16) 0) (ltb (payloadFrom f) (length f)) (all .0) in
-      let few = leb-le n 8 (and-parts (leb n 8) (eqb (byte 22 f % 16) 0) (fields .0) .0) in
-      let short = leb-le (length f) (payloadFrom f + 4096) (all .1) in
+      let all = and-parts (leb n mostHashes && eqb (byte 22 f % 16) 0 && ltb (payloadFrom f) (length f)) (leb (length f) (payloadFrom f + mostPayload)) (right-tests f (room .0) refl refl ∙ e) in
+      let fields = and-parts (leb n mostHashes && eqb (byte 22 f % 16) 0) (ltb (payloadFrom f) (length f)) (all .0) in
+      let few = leb-le n mostHashes (and-parts (leb n mostHashes) (eqb (byte 22 f % 16) 0) (fields .0) .0) in
+      let short = leb-le (length f) (payloadFrom f + mostPayload) (all .1) in
       (omega (arith, few), omega arith, omega (arith, few), omega (arith, short))
 
-  list-small : shaped List' f ≡ true → ((length f - 5) / 10 < 65536) × (5 < 65536)
+  list-small : shaped List' f ≡ true → ((length f - 5) / handleSize < 65536) × (5 < 65536)
   list-small e =
-      let low = eqb (byte 4 f % 128) 0 && eqb ((length f - 5) % 10) 0 in
-      let short = leb-le (length f - 5) 150 (and-parts low (leb (length f - 5) 150) (list-tests f (list-room f e .0) refl ∙ e) .1) in
+      let low = eqb (byte 4 f % 128) 0 && eqb ((length f - 5) % handleSize) 0 in
+      let short = leb-le (length f - 5) (handleSize * mostSlots) (and-parts low (leb (length f - 5) (handleSize * mostSlots)) (list-tests f (list-room f e .0) refl ∙ e) .1) in
       (omega (arith, short), omega arith)
 
   info-small : shaped Info f ≡ true → (6 < 65536) × (length f - 6 < 65536)
   info-small e =
-      let short = leb-le (length f) 4102 (and-parts (ltb 6 (length f)) (leb (length f) 4102) (info-tests f ∙ e) .1) in
+      let short = leb-le (length f) (6 + mostPayload) (and-parts (ltb 6 (length f)) (leb (length f) (6 + mostPayload)) (info-tests f ∙ e) .1) in
       (omega arith, omega (arith, short))
 
   of-kind : (k : Kind) → shaped k f ≡ true → SmallTold (toldShaped k f)

@@ -4,22 +4,25 @@ use mathlib.Core.Path.{_≡_}
 use mathlib.Core.List.{List, [], _∷_}
 use mathlib.Core.Bool.{Bool, cond}
 use Rattle.profile.specs.Bytes.{Bytes}
+use Rattle.profile.specs.Sizes.{notAReply}
+use Rattle.profile.specs.Slot.{Count}
 use Rattle.profile.specs.Device.{readReply}
 use Rattle.reply_reader.specs.declared.answer.Answer.{Answer}
 use Rattle.reply_reader.specs.declared.answer.Answer.the-variants.{Malformed, Failed, Nothing, Right, Key, Handles, Counted}
 use Rattle.reply_reader.specs.Told.{meaning, told}
 
--- ---- the numbers: kind, status, count, hashes, hashes from, payload from, payload length, more, handles, handles from; what a reply lacks is 0
+-- ---- the numbers: kind, status, count, number of hashes, offset of the hashes, offset of the payload, payload length, more, number of
+-- handles, offset of the handles; what a reply lacks is 0
 abbrev pub ofStatus : ℕ → ℕ → List ℕ
 ofStatus kind status = kind ∷ status ∷ 0 ∷ 0 ∷ 0 ∷ 0 ∷ 0 ∷ 0 ∷ 0 ∷ 0 ∷ []
 
-abbrev pub ofRight : ℕ → ℕ → ℕ → ℕ → ℕ → List ℕ
+abbrev pub ofRight : Count → ℕ → ℕ → ℕ → ℕ → List ℕ
 ofRight count n hashes at size = 3 ∷ 0 ∷ count ∷ n ∷ hashes ∷ at ∷ size ∷ 0 ∷ 0 ∷ 0 ∷ []
 
 abbrev pub ofHandles : Bool → ℕ → ℕ → List ℕ
 ofHandles more n at = 8 ∷ 0 ∷ 0 ∷ 0 ∷ 0 ∷ 0 ∷ 0 ∷ cond more 1 0 ∷ n ∷ at ∷ []
 
-abbrev pub ofCounted : ℕ → ℕ → ℕ → List ℕ
+abbrev pub ofCounted : Count → ℕ → ℕ → List ℕ
 ofCounted count at size = 9 ∷ 0 ∷ count ∷ 0 ∷ 0 ∷ at ∷ size ∷ 0 ∷ 0 ∷ 0 ∷ []
 
 abbrev pub numbers : Answer → List ℕ
@@ -50,9 +53,9 @@ pub record Left : Type 0 where
 abbrev pub left : ℕ → Bytes → List ℕ → Left
 left n key fields = record { number = n; key = key; fields = fields }
 
--- "refuses with 203", and then nothing is changed
+-- 203 leaves the key and the numbers as they were
 abbrev pub leaves : Bytes → List ℕ → Bytes → Answer → Left
-leaves key fields k Malformed = left 203 key fields
+leaves key fields k Malformed = left notAReply key fields
 leaves key fields k (Failed kind status) = left 0 k (ofStatus kind status)
 leaves key fields k (Nothing kind) = left 0 k (ofStatus kind 0)
 leaves key fields k (Right count n hashes at size) = left 0 k (ofRight count n hashes at size)
@@ -60,7 +63,7 @@ leaves key fields k Key = left 0 k (ofStatus 4 0)
 leaves key fields k (Handles more n at) = left 0 k (ofHandles more n at)
 leaves key fields k (Counted count at size) = left 0 k (ofCounted count at size)
 
--- what is told of the frame is left, and means what document 01 says
+-- what is told of the frame is left, and means what the profile says
 pub record ReadsInto (f key : Bytes) (fields : List ℕ) (l : Left) : Type 0 where
   pub exact : l ≡ leaves key fields (told f .key) (told f .answer)
   pub means : meaning f (told f) ≡ readReply f

@@ -1,8 +1,15 @@
-// What a front end or a device links: the functions of the card profile under C's calling convention. Each is thin, asks
-// nothing of what it is lent, and promises what the function it calls promises. A slice is a pointer, then a length.
+// What a front end or a device links: four functions under C's calling convention, declared for C in include/cavernlull.h. In C a slice is
+// a pointer and then a length, and an array is a pointer. Any bytes and any lengths may be lent. What is lent to be changed shares no byte
+// with anything else that is lent in the same call.
+use crate::numbers::REPLY_NUMBERS;
+use listing::LISTING_ROOM;
+use profile::Count;
+use profile::number::DONE;
+use profile::sizes::HANDLE_BYTES;
+use profile::sizes::KEY_BYTES;
 use request_writer::given::Plain;
 
-mod numbers;
+mod numbers; // numbers.rt: a reply as ten numbers
 
 ghost use mathlib.Core.Path.{_≡_};
 ghost use lib.ListN.{length};
@@ -14,7 +21,8 @@ ghost use Rattle.agent.specs.Call.{outcome, callOf};
 ghost use Rattle.request_writer.specs.Writing.{wrote};
 ghost use Rattle.cavernlull.specs.Numbers.{left, ReadsInto};
 
-// "One call takes a request frame, a lent table of slots and a lent reply buffer."
+// The card agent (PROFILE 1.1): answers one request frame. With 0 the reply stands at the start of `reply`, whose other bytes stay, and
+// `table` is as the request leaves it. With 101 to 104 (PROFILE 4.1) nothing is changed.
 #[no_mangle]
 pub extern "C" fn cavernlull_call(table: &mut [u8], frame: &[u8], reply: &mut [u8]) -> u16
     ensures { λ r. ⌜ outcome r (now (reply .exit)) (now (table .exit)) ≡ agentOf (now (table .entry)) (callOf (now (frame .entry)) (now (reply .entry))) ⌝ }
@@ -22,15 +30,16 @@ pub extern "C" fn cavernlull_call(table: &mut [u8], frame: &[u8], reply: &mut [u
     agent::call(table, frame, reply)
 }
 
-// "The writer takes a kind and fields": every field of any kind, where those that the kind lacks are empty or zero.
+// The request writer of a device (PROFILE 6.2): takes a kind and the fields of all kinds, of which those that the kind lacks must be zero or
+// empty. With 0 the frame stands at the start of `out`, whose other bytes stay. With 202 or 201 nothing is changed.
 #[no_mangle]
 pub extern "C" fn cavernlull_write_request(
     kind: u8,
-    handle: &[u8; 10],
-    new: &[u8; 10],
-    key: &[u8; 16],
+    handle: &[u8; HANDLE_BYTES],
+    new: &[u8; HANDLE_BYTES],
+    key: &[u8; KEY_BYTES],
     room: u16,
-    count: u16,
+    count: Count,
     limit: u16,
     hashes: &[u8],
     payload: &[u8],
@@ -49,20 +58,21 @@ pub extern "C" fn cavernlull_write_request(
     request_writer::writer::write_request(kind, plain, hashes, payload, out)
 }
 
-// "The reply reader refuses with 203"; otherwise the key, and the numbers: kind, status, count, hashes, where they are, where
-// the payload is, its length, more, handles, where they are.
+// The reply reader of a device (PROFILE 6.3). With 0 the key and all ten numbers are written: kind, status, count, number of hashes, offset
+// of the hashes, offset of the payload, payload length, more, number of handles, offset of the handles. What the reply lacks is 0. With 203
+// nothing is changed.
 #[no_mangle]
 pub extern "C" fn cavernlull_read_reply(
     frame: &[u8],
-    key: &mut [u8; 16],
-    fields: &mut [u16; 10],
+    key: &mut [u8; KEY_BYTES],
+    fields: &mut [u16; REPLY_NUMBERS],
 ) -> u16
     ensures { λ r. ⌜ ReadsInto (now (frame .entry)) (now (key .entry)) (now (fields .entry)) (left r (now (key .exit)) (now (fields .exit))) ⌝ }
 {
     let told = reply_reader::reader::read_reply(frame);
     let answer = told.answer;
     let number = reply_reader::answer::number_of(answer);
-    if number == 0 {
+    if number == DONE {
         let k = told.key;
         let n = crate::numbers::numbers_of(answer);
         *key = k;
@@ -71,9 +81,10 @@ pub extern "C" fn cavernlull_read_reply(
     number
 }
 
-// The listing of any bytes at all, at the start of the buffer; what is given is its length.
+// The listing of a table (PROFILE 7.1 and 7.2) at the start of `out`, whose other bytes stay. It gives the listing's length, and refuses
+// nothing: of bytes that are no table the listing is the line that says so.
 #[no_mangle]
-pub extern "C" fn cavernlull_list(table: &[u8], out: &mut [u8; 406]) -> usize
+pub extern "C" fn cavernlull_list(table: &[u8], out: &mut [u8; LISTING_ROOM]) -> usize
     ensures { λ r. ⌜ (r ≡ length (listing (now (table .entry)))) × (now (out .exit) ≡ over (listing (now (table .entry))) (now (out .entry))) ⌝ }
 {
     listing::list(table, out)

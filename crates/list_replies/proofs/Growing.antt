@@ -7,6 +7,7 @@ use native.Mathlib.Omega.{arith}
 use lib.ListN.{length, take, drop, length-append, take-append-drop}
 use lib.Seq.{drop-at, length-take-le}
 use Rattle.profile.specs.Bytes.{Bytes, if_then_else_, over, joined, Each}
+use Rattle.profile.specs.Sizes.{handleSize}
 use Rattle.profile.specs.Frame.{frame}
 use Rattle.profile.specs.Slot.{Slot}
 use Rattle.profile.specs.Agent.{handles, done, replyFrame}
@@ -29,20 +30,21 @@ pub hold-none : (b : Bytes) → holding [] b ≡ b
 unfolding holding overAt
 hold-none b = rw (append-nil (take 5 b)) (take-append-drop 5 b)
 
-module _ (hs : List Bytes) (n : ℕ) (b : Bytes) (each : Each 10 hs) (count : length hs ≡ n) (fits : 5 + 10 * n ≤ length b) where
-  size : length (joined hs) ≡ 10 * n
-  size = length-each 10 hs each ∙ ap (λ (k : ℕ). 10 * k) count
+module _ (hs : List Bytes) (n : ℕ) (b : Bytes) (each : Each handleSize hs) (count : length hs ≡ n) (fits : 5 + handleSize * n ≤ length b) where
+  size : length (joined hs) ≡ handleSize * n
+  size = length-each handleSize hs each ∙ ap (λ (k : ℕ). handleSize * k) count
 
   pub hold-length : length (holding hs b) ≡ length b
   unfolding holding
   hold-length = let s = size in over-length (joined hs) b 5 (omega arith)
 
   -- after `put_handle`
-  pub hold-more : {d d' : Bytes} (h : Bytes) → length h ≡ 10 → 15 + 10 * n ≤ length b → d ≡ holding hs b → d' ≡ overAt (5 + 10 * n) h d → d' ≡ holding (hs ++ (h ∷ [])) b
+  pub hold-more : {d d' : Bytes} (h : Bytes) → length h ≡ handleSize → 5 + handleSize + handleSize * n ≤ length b → d ≡ holding hs b
+      → d' ≡ overAt (5 + handleSize * n) h d → d' ≡ holding (hs ++ (h ∷ [])) b
   unfolding holding
   hold-more h e f p q =
       let s = size in
-      q ∙ rw p (over-more (joined hs) h b 5 (5 + 10 * n) (omega arith) (omega arith) ∙ rw (joined-snoc hs h))
+      q ∙ rw p (over-more (joined hs) h b 5 (5 + handleSize * n) (omega arith) (omega arith) ∙ rw (joined-snoc hs h))
 
 -- ---- the head
 -- bytes written in front of bytes: one writing of both
@@ -53,7 +55,7 @@ over-front xs ys d n e h =
     rw (e, append-assoc (take n d) ys t, drop-at (take n d) (ys ++ t) n (length-take-le n d h), length-append xs ys, append-assoc xs ys (drop (length xs + length ys) d), e)
 
 -- after `close_list`, whatever the slots are
-pub list-closed : (hs : List Bytes) (n : ℕ) (b : Bytes) → Each 10 hs → length hs ≡ n → 5 + 10 * n ≤ length b → {d d' : Bytes} (more : Bool) (t : List Slot)
+pub list-closed : (hs : List Bytes) (n : ℕ) (b : Bytes) → Each handleSize hs → length hs ≡ n → 5 + handleSize * n ≤ length b → {d d' : Bytes} (more : Bool) (t : List Slot)
     → d ≡ holding hs b → d' ≡ over (listStart n more) d → d' ≡ over (replyFrame 8 (done (handles more hs) t)) b
 unfolding holding listStart frame replyFrame
 list-closed hs n b each count fits more t p q =
@@ -61,14 +63,18 @@ list-closed hs n b each count fits more t p q =
     ∙ rw p (over-front (listStart n more) (joined hs) b 5 refl (omega arith))
     ∙ ap (λ (m : ℕ). over (headOf 8 0 m ++ ((if more then 128 else 0) ∷ joined hs)) b) says
   where
-    says : 1 + 10 * n ≡ suc (length (joined hs))
+    says : 1 + handleSize * n ≡ suc (length (joined hs))
     says = omega (arith, size hs n b each count fits)
 
 -- the head of a list is written in two parts
-start-written : (n : ℕ) (more : Bool) (d : Bytes) → 5 ≤ length d → overAt 4 ((if more then 128 else 0) ∷ []) (overAt 0 (headOf 8 0 (1 + 10 * n)) d) ≡ over (listStart n more) d
+start-written : (n : ℕ) (more : Bool) (d : Bytes) → 5 ≤ length d → overAt 4 ((if more then 128 else 0) ∷ []) (overAt 0 (headOf 8 0 (1 + handleSize * n)) d) ≡ over (listStart n more) d
 unfolding listStart
-start-written n more d h = over-more (headOf 8 0 (1 + 10 * n)) ((if more then 128 else 0) ∷ []) d 0 4 refl h ∙ over-start (headOf 8 0 (1 + 10 * n) ++ ((if more then 128 else 0) ∷ [])) d
+start-written n more d h =
+    let head : Bytes = headOf 8 0 (1 + handleSize * n) in
+    let flag : Bytes = (if more then 128 else 0) ∷ [] in
+    over-more head flag d 0 4 refl h ∙ over-start (head ++ flag) d
 
 -- the same, step by step
-pub start-steps : (n : ℕ) (more : Bool) (d : Bytes) {h d₁ d₂ : Bytes} {f : ℕ} → h ≡ headOf 8 0 (1 + 10 * n) → f ≡ (if more then 128 else 0) → d₁ ≡ overAt 0 h d → d₂ ≡ overAt 4 (f ∷ []) d₁ → 5 ≤ length d → d₂ ≡ over (listStart n more) d
+pub start-steps : (n : ℕ) (more : Bool) (d : Bytes) {h d₁ d₂ : Bytes} {f : ℕ} → h ≡ headOf 8 0 (1 + handleSize * n) → f ≡ (if more then 128 else 0) → d₁ ≡ overAt 0 h d
+    → d₂ ≡ overAt 4 (f ∷ []) d₁ → 5 ≤ length d → d₂ ≡ over (listStart n more) d
 start-steps n more d eh ef e₁ e₂ l = rw (e₂, e₁, eh, ef) (start-written n more d l)

@@ -3,6 +3,7 @@ use Prim.Native.Nat.{ℕ, _+_, _*_}
 use mathlib.Core.List.{List, [], _∷_, _++_}
 use mathlib.Core.Bool.{Bool}
 use Rattle.profile.specs.Bytes.{Bytes, if_then_else_, joined}
+use Rattle.profile.specs.Sizes.{handleSize}
 use Rattle.buffers.specs.Over.{overAt}
 use Rattle.reply_writer.specs.Written.{headOf}
 
@@ -10,6 +11,6 @@ use Rattle.reply_writer.specs.Written.{headOf}
 unfoldable pub holding : List Bytes → Bytes → Bytes
 holding hs b = overAt 5 (joined hs) b
 
--- what stands in front of n handles: the head, and "more 1 bit, 7 zero bits"
+-- what stands in front of n handles: the head, and one bit that says "more" above seven zero bits
 unfoldable pub listStart : ℕ → Bool → Bytes
-listStart n more = headOf 8 0 (1 + 10 * n) ++ ((if more then 128 else 0) ∷ [])
+listStart n more = headOf 8 0 (1 + handleSize * n) ++ ((if more then 128 else 0) ∷ [])

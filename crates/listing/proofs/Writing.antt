@@ -1,4 +1,4 @@
--- Bytes put one behind the other, and the words between the numbers. Assumes nothing.
+-- Bytes put one after the other, and the words between the numbers. Assumes nothing.
 use Prim.Native.Nat.{ℕ, zero, suc, _^_, _≤_, _<_}
 use mathlib.Core.Path.{_≡_, refl, sym, ap, _∙_}
 use mathlib.Core.List.{[], _++_, append-nil}
@@ -53,7 +53,7 @@ placed-few (suc zero) = omega arith
 placed-few (suc (suc zero)) = omega arith
 placed-few (suc (suc (suc p))) = omega arith
 
--- ---- "one line, as `refused 103`"
+-- ---- the line of a refused table
 pub refusal-there : (n : ℕ) {d d₁ d₂ d₃ : Bytes} {e₁ e₂ e₃ : ℕ} → Wrote (text "refused ") 0 d d₁ e₁ → Wrote (number n) e₁ d₁ d₂ e₂ → Wrote (text "\n") e₂ d₂ d₃ e₃ → Wrote (refusal n) 0 d d₃ e₃
 unfolding refusal number
 refusal-there n u v w = wrote-then u (wrote-then v w)

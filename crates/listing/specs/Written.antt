@@ -1,16 +1,17 @@
--- The parts of a listing as they are put into a buffer, one behind the other.
+-- The parts of a listing as they are put into a buffer, one after the other.
 use Prim.Native.Nat.{ℕ, _+_, _≤_}
 use mathlib.Core.Path.{_≡_}
 use mathlib.Core.List.{_++_}
 use mathlib.Core.Bool.{true}
 use lib.ListN.{length}
 use Rattle.profile.specs.Bytes.{Bytes}
+use Rattle.profile.specs.Slot.{Count}
 use Rattle.profile.specs.Text.{text}
 use Rattle.profile.specs.Table.{slotBytes, wholeSlots, wellTable}
 use Rattle.profile.specs.Listing.{decimal, placeWord, line, lines, refusedLine}
 use Rattle.buffers.specs.Over.{overAt}
 
--- bytes stand in a buffer from a place on, which was d and is d', and end within it
+-- bytes stand at an offset of a buffer, which was d and is d', and end within it
 pub record Wrote (xs : Bytes) (at : ℕ) (d d' : Bytes) (end : ℕ) : Type 0 where
   pub ends : end ≡ at + length xs
   pub inside : end ≤ length d
@@ -35,7 +36,7 @@ placed p = placeWord p
 unfoldable pub labelOf : ℕ → ℕ → Bytes
 labelOf i place = number i ++ text " " ++ placed place
 
-unfoldable pub sizesOf : ℕ → ℕ → ℕ → Bytes
+unfoldable pub sizesOf : ℕ → Count → ℕ → Bytes
 sizesOf hashes count size = field hashes ++ field count ++ field size ++ text "\n"
 
 unfoldable pub lineOf : ℕ → Bytes → Bytes

@@ -1,22 +1,33 @@
-// The listing of a table, as the program `cardlist` prints it: "a header, then per slot: index, place, hash count, count, payload length".
+// The listing of a table, as the program `cardlist` prints it (PROFILE 7.1): a header, and then a line for each slot.
 ghost use mathlib.Core.Path.{_≡_};
 ghost use lib.ListN.{length};
 ghost use Rattle.profile.specs.Bytes.{over};
 ghost use Rattle.profile.specs.Listing.{listing};
+use profile::number::TABLE_LENGTH;
+use profile::number::TABLE_NOT_WELL_FORMED;
+use profile::sizes::MOST_SLOTS;
 
-mod put; // put.rt: words and numbers, one behind the other
+mod put; // put.rt: words and numbers, one after the other
 mod lines; // lines.rt: the line of a slot, and those of all slots
 
-// The listing of any bytes at all. The buffer has room for a header of 31 bytes and 15 lines of 25, which is what an index of two
-// digits, a word of eight letters, one digit of hashes, five of a count and four of a length come to, with four spaces and a newline.
-pub fn list(table: &[u8], out: &mut [u8; 406]) -> usize
+// The longest listing: a header of 31 bytes, and for each slot a line of 25, which is what an index of two digits, a word of eight
+// letters, one digit of hashes, five of a count and four of a length come to, with four spaces and a newline.
+pub const LISTING_ROOM: usize = 31 + 25 * MOST_SLOTS;
+
+// The numbers of a refused table, as they are printed.
+const LENGTH_REFUSED: usize = TABLE_LENGTH as usize;
+
+const FORM_REFUSED: usize = TABLE_NOT_WELL_FORMED as usize;
+
+// The listing of any bytes at all; of a table that the card refuses it is one line (PROFILE 7.2).
+pub fn list(table: &[u8], out: &mut [u8; LISTING_ROOM]) -> usize
     ensures { λ r. ⌜ (r ≡ length (listing (now (table .entry)))) × (now (out .exit) ≡ over (listing (now (table .entry))) (now (out .entry))) ⌝ }
 {
     if !tables::part::whole_slots(table) {
-        return put::put_refusal(out, 102);
+        return put::put_refusal(out, LENGTH_REFUSED);
     }
     if !tables::table::well_table(table) {
-        return put::put_refusal(out, 103);
+        return put::put_refusal(out, FORM_REFUSED);
     }
     let at = put::put_word(out, 0, b"slot place hashes count length\n");
     lines::put_lines(out, at, table)

@@ -1,18 +1,20 @@
-// The lines of a listing: "index, place, hash count, count, payload length", "one space between, a newline byte after each line".
+// The lines of a listing (PROFILE 7.1): index, place, hash count, count and payload length, with one space between and a newline after.
 use crate::put::put_field;
 use crate::put::put_number;
 use crate::put::put_place;
 use crate::put::put_word;
+use profile::Count;
+use profile::sizes::SLOT_BYTES;
 use slots::place::Place;
 ghost use mathlib.Core.Path.{_≡_};
-ghost use Prim.Native.Nat.{_+_, _<_, _≤_};
+ghost use Prim.Native.Nat.{_+_, _*_, _<_, _≤_};
 ghost use lib.ListN.{length};
-ghost use Rattle.profile.specs.Table.{hashCountOf};
-ghost use Rattle.profile.specs.Bytes.{word};
+ghost use Rattle.profile.specs.Sizes.{slotSize, mostSlots};
+ghost use Rattle.profile.specs.Table.{hashCountOf, lengthOf};
 ghost use Rattle.slots.specs.Places.{placeNumber};
 ghost use Rattle.listing.specs.Written.{Wrote, labelOf, sizesOf, lineOf, linesOf, Listable};
 
-// The front of a line: "index, place".
+// The front of a line: index and place.
 fn put_label(out: &mut [u8], at: usize, i: usize, place: Place) -> usize
     requires { ⌜ (i < 100) × (at + 11 ≤ length (now out)) ⌝ }
     ensures { λ r. ⌜ Wrote (labelOf i (placeNumber place)) at (now (out .entry)) (now (out .exit)) r ⌝ }
@@ -22,8 +24,8 @@ fn put_label(out: &mut [u8], at: usize, i: usize, place: Place) -> usize
     put_place(out, after_space, place)
 }
 
-// The rest of it: "hash count, count, payload length", and the newline.
-fn put_sizes(out: &mut [u8], at: usize, hashes: usize, count: u16, size: usize) -> usize
+// The rest of it: hash count, count and payload length, and the newline.
+fn put_sizes(out: &mut [u8], at: usize, hashes: usize, count: Count, size: usize) -> usize
     requires { ⌜ (hashes < 10) × (size < 10000) × (at + 14 ≤ length (now out)) ⌝ }
     ensures { λ r. ⌜ Wrote (sizesOf hashes count size) at (now (out .entry)) (now (out .exit)) r ⌝ }
 {
@@ -35,7 +37,7 @@ fn put_sizes(out: &mut [u8], at: usize, hashes: usize, count: u16, size: usize) 
 
 // One slot's line, of 25 bytes at the most.
 fn put_line(out: &mut [u8], at: usize, i: usize, slot: &[u8]) -> usize
-    requires { ⌜ (i < 100) × (length (now slot) ≡ 4288) × (hashCountOf (now slot) < 10) × (word 29 (now slot) < 10000) × (at + 25 ≤ length (now out)) ⌝ }
+    requires { ⌜ (i < 100) × (length (now slot) ≡ slotSize) × (hashCountOf (now slot) < 10) × (lengthOf (now slot) < 10000) × (at + 25 ≤ length (now out)) ⌝ }
     ensures { λ r. ⌜ Wrote (lineOf i (now (slot .entry))) at (now (out .entry)) (now (out .exit)) r ⌝ }
 {
     let head = slots::head::head_of(slot);
@@ -44,12 +46,12 @@ fn put_line(out: &mut [u8], at: usize, i: usize, slot: &[u8]) -> usize
     put_sizes(out, next, head.hashes, head.count, head.length)
 }
 
-// "then per slot", "index from 0".
+// The lines of all slots. The first has the index 0.
 pub(crate) fn put_lines(out: &mut [u8], at: usize, table: &[u8]) -> usize
-    requires { ⌜ Listable (now table) × (at + 375 ≤ length (now out)) ⌝ }
+    requires { ⌜ Listable (now table) × (at + 25 * mostSlots ≤ length (now out)) ⌝ }
     ensures { λ r. ⌜ Wrote (linesOf (now (table .entry))) at (now (out .entry)) (now (out .exit)) r ⌝ }
 {
-    let n = table.len() / 4288;
+    let n = table.len() / SLOT_BYTES;
     let mut next = at;
     let mut i = 0;
     while i < n {

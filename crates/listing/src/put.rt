@@ -1,11 +1,11 @@
-// Words and numbers, put into a buffer one behind the other: each function answers the place behind what it put.
+// Words and numbers, put into a buffer one after the other: each function gives the offset after what it put.
 use slots::place::Place;
 ghost use Prim.Native.Nat.{_+_, _<_, _≤_};
 ghost use lib.ListN.{length};
 ghost use Rattle.slots.specs.Places.{placeNumber};
 ghost use Rattle.listing.specs.Written.{Wrote, number, field, placed, refusal};
 
-// "the listing's header and place words are fixed byte strings copied into the output buffer".
+// Bytes that are fixed, as the header and a place's word are.
 pub(crate) fn put_word(out: &mut [u8], at: usize, word: &[u8]) -> usize
     requires { ⌜ at + length (now word) ≤ length (now out) ⌝ }
     ensures { λ r. ⌜ Wrote (now (word .entry)) at (now (out .entry)) (now (out .exit)) r ⌝ }
@@ -14,7 +14,7 @@ pub(crate) fn put_word(out: &mut [u8], at: usize, word: &[u8]) -> usize
     at + word.len()
 }
 
-// "the rest in decimal": no number of a listing has more than 16 bits.
+// A number in decimal. No number of a listing has more than 16 bits.
 pub(crate) fn put_number(out: &mut [u8], at: usize, n: usize) -> usize
     requires { ⌜ (n < 65536) × (at + length (number n) ≤ length (now out)) ⌝ }
     ensures { λ r. ⌜ Wrote (number n) at (now (out .entry)) (now (out .exit)) r ⌝ }
@@ -24,7 +24,7 @@ pub(crate) fn put_number(out: &mut [u8], at: usize, n: usize) -> usize
     put_word(out, at, &digits[..count])
 }
 
-// A number, with the "one space between" in front of it.
+// A number, with a space in front of it.
 pub(crate) fn put_field(out: &mut [u8], at: usize, n: usize) -> usize
     requires { ⌜ (n < 65536) × (at + length (field n) ≤ length (now out)) ⌝ }
     ensures { λ r. ⌜ Wrote (field n) at (now (out .entry)) (now (out .exit)) r ⌝ }
@@ -33,7 +33,7 @@ pub(crate) fn put_field(out: &mut [u8], at: usize, n: usize) -> usize
     put_number(out, next, n)
 }
 
-// "the place as its word".
+// A place, as its word.
 pub(crate) fn put_place(out: &mut [u8], at: usize, place: Place) -> usize
     requires { ⌜ at + 8 ≤ length (now out) ⌝ }
     ensures { λ r. ⌜ Wrote (placed (placeNumber place)) at (now (out .entry)) (now (out .exit)) r ⌝ }
@@ -46,7 +46,7 @@ pub(crate) fn put_place(out: &mut [u8], at: usize, place: Place) -> usize
     }
 }
 
-// "For a refused table it prints one line", at the start of the buffer.
+// The one line of a refused table (PROFILE 7.2), at the start of the buffer.
 pub(crate) fn put_refusal(out: &mut [u8], n: usize) -> usize
     requires { ⌜ (n < 1000) × (12 ≤ length (now out)) ⌝ }
     ensures { λ r. ⌜ Wrote (refusal n) 0 (now (out .entry)) (now (out .exit)) r ⌝ }

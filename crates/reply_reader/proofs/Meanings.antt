@@ -1,4 +1,4 @@
--- What the reader tells of a frame means what document 01 says of it. Assumes nothing.
+-- What the reader tells of a frame means what the profile says of it. Assumes nothing.
 use mathlib.Core.Path.{_≡_, refl, sym, ap, ap₂, _∙_}
 use mathlib.Core.List.{List}
 use mathlib.Core.Option.{Option, none, some}
@@ -9,6 +9,7 @@ use lib.Dec.{eqb, ltb}
 use lib.ListN.{length, drop, length-drop}
 use lib.Seq.{drop-drop, take-all}
 use Rattle.profile.specs.Bytes.{Bytes, if_then_else_, byte, part, word, pieces}
+use Rattle.profile.specs.Sizes.{handleSize, keySize, hashSize}
 use Rattle.profile.specs.Slot.{Count}
 use Rattle.profile.specs.Frame.{Kind, Setup, Install, Retrieve, Rek, Enable, Remove, Cancel, List', Info, kindOf, lastStatus, isFrame, versionHolds, kindNumber, body, statusIn, hashCountAt18}
 use Rattle.profile.specs.Request.{numberOf, fields}
@@ -37,25 +38,26 @@ module _ (f : Bytes) where
   to-the-end at = take-all (length f - at) (drop at f) (rw (length-drop at f) (omega arith))
 
   -- ---- kind by kind
-  right-given : theRight (record { key = part 4 16 f; count = word 20 f; hashes = pieces 20 (byte 22 f / 16) (drop 23 f); payload = part (payloadFrom f) (length f - payloadFrom f) f }) ≡ given Retrieve f
-  right-given = λ i. theRight (record { key = part 4 16 f; count = count-is i; hashes = hashes-are i; payload = payload-is i })
+  right-given : theRight (record { key = part 4 keySize f; count = word 20 f; hashes = pieces hashSize (byte 22 f / 16) (drop 23 f); payload = part (payloadFrom f) (length f - payloadFrom f) f })
+      ≡ given Retrieve f
+  right-given = λ i. theRight (record { key = part 4 keySize f; count = count-is i; hashes = hashes-are i; payload = payload-is i })
     where
       count-is : word 20 f ≡ word 16 (body f)
       count-is = sym (body-word 16)
 
-      hashes-are : pieces 20 (byte 22 f / 16) (drop 23 f) ≡ pieces 20 (hashCountAt18 (body f)) (drop 19 (body f))
+      hashes-are : pieces hashSize (byte 22 f / 16) (drop 23 f) ≡ pieces hashSize (hashCountAt18 (body f)) (drop 19 (body f))
       hashes-are = sym (rw (body-byte f 18, body-drop 19))
 
-      payload-is : part (payloadFrom f) (length f - payloadFrom f) f ≡ drop (19 + 20 * hashCountAt18 (body f)) (body f)
-      payload-is = to-the-end (payloadFrom f) ∙ sym (rw (body-byte f 18) (body-drop (19 + 20 * (byte 22 f / 16)) ∙ ap (λ (n : ℕ). drop n f) sum))
+      payload-is : part (payloadFrom f) (length f - payloadFrom f) f ≡ drop (19 + hashSize * hashCountAt18 (body f)) (body f)
+      payload-is = to-the-end (payloadFrom f) ∙ sym (rw (body-byte f 18) (body-drop (19 + hashSize * (byte 22 f / 16)) ∙ ap (λ (n : ℕ). drop n f) sum))
         where
-          sum : 4 + (19 + 20 * (byte 22 f / 16)) ≡ payloadFrom f
+          sum : 4 + (19 + hashSize * (byte 22 f / 16)) ≡ payloadFrom f
           sum = omega arith
 
-  key-given : shaped Rek f ≡ true → theKey (part 4 16 f) ≡ given Rek f
-  key-given s = ap theKey (take-all 16 (body f) (rw (length-drop 4 f) (omega (arith, key-room f s))))
+  key-given : shaped Rek f ≡ true → theKey (part 4 keySize f) ≡ given Rek f
+  key-given s = ap theKey (take-all keySize (body f) (rw (length-drop 4 f) (omega (arith, key-room f s))))
 
-  list-given : shaped List' f ≡ true → handles (eqb (byte 4 f / 128) 1) (pieces 10 ((length f - 5) / 10) (drop 5 f)) ≡ given List' f
+  list-given : shaped List' f ≡ true → handles (eqb (byte 4 f / 128) 1) (pieces handleSize ((length f - 5) / handleSize) (drop 5 f)) ≡ given List' f
   list-given s = ap₂ (λ (a : Bool) (b : List Bytes). handles a b) more (sym list)
     where
       low : byte 4 f % 128 ≡ 0
@@ -67,7 +69,7 @@ module _ (f : Bytes) where
       size : length (body f) - 1 ≡ length f - 5
       size = rw (length-drop 4 f) (omega arith)
 
-      list : pieces 10 ((length (body f) - 1) / 10) (drop 1 (body f)) ≡ pieces 10 ((length f - 5) / 10) (drop 5 f)
+      list : pieces handleSize ((length (body f) - 1) / handleSize) (drop 1 (body f)) ≡ pieces handleSize ((length f - 5) / handleSize) (drop 5 f)
       list = rw (size, body-drop 1)
 
   info-given : counted (word 4 f) (part 6 (length f - 6) f) ≡ given Info f

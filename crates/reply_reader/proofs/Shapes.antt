@@ -1,4 +1,4 @@
--- The reader's tests on a whole frame, as document 01 has them on its body. Assumes nothing.
+-- The reader's tests on a whole frame, as the profile has them on its body. Assumes nothing.
 use mathlib.Core.Path.{_≡_, refl, sym, ap, ap₂, _∙_}
 use mathlib.Core.List.{[], _∷_}
 use mathlib.Core.Bool.{Bool, true, false, _&&_, and-assoc}
@@ -9,6 +9,7 @@ use lib.ListN.{length, length-drop}
 use lib.Seq.{getD-drop}
 use borrow.Author.Tests.{eqb-true, eqb-false, leb-true, leb-false, eq-eqb, ne-eqb, le-ltb, le-leb, lt-leb}
 use Rattle.profile.specs.Bytes.{Bytes, byte, word}
+use Rattle.profile.specs.Sizes.{mostSlots, mostPayload, handleSize, keySize, hashSize, mostHashes}
 use Rattle.profile.specs.Frame.{isFrame, versionHolds, body, rightFits, Retrieve, Rek, List', Info}
 use Rattle.profile.specs.Device.{none?, shaped}
 use Rattle.profile.proofs.Logic.{and-parts}
@@ -59,62 +60,62 @@ module _ (f : Bytes) where
   pub right-short : length f < 24 → false ≡ shaped Retrieve f
   right-short h = rw (body-length, lt-leb 20 (length f - 4) (omega arith))
 
-  -- the payload of kind 3, behind n hashes
+  -- the payload of kind 3, after n hashes
   abbrev size : ℕ → ℕ
-  size n = length f - 4 - (19 + 20 * n)
+  size n = length f - 4 - (19 + hashSize * n)
 
   pub right-tests : {n r : ℕ} → 24 ≤ length f → n ≡ byte 22 f / 16 → r ≡ byte 22 f % 16
-      → (leb n 8 && eqb r 0 && ltb (23 + 20 * n) (length f) && leb (length f) (23 + 20 * n + 4096)) ≡ shaped Retrieve f
+      → (leb n mostHashes && eqb r 0 && ltb (23 + hashSize * n) (length f) && leb (length f) (23 + hashSize * n + mostPayload)) ≡ shaped Retrieve f
   right-tests {n} {r} h en er =
       rw (body-length, body-byte 18, le-leb 20 (length f - 4) (omega arith), ← en, ← er, some, most)
-      (and-assoc (leb n 8 && eqb r 0) (ltb 0 (size n)) (leb (size n) 4096))
+      (and-assoc (leb n mostHashes && eqb r 0) (ltb 0 (size n)) (leb (size n) mostPayload))
     where
-      some : ltb (23 + 20 * n) (length f) ≡ ltb 0 (size n)
-      some = leb-same (suc (23 + 20 * n)) (length f) 1 (size n) (λ h. omega arith) (λ h. omega arith)
+      some : ltb (23 + hashSize * n) (length f) ≡ ltb 0 (size n)
+      some = leb-same (suc (23 + hashSize * n)) (length f) 1 (size n) (λ h. omega arith) (λ h. omega arith)
 
-      most : leb (length f) (23 + 20 * n + 4096) ≡ leb (size n) 4096
-      most = leb-same (length f) (23 + 20 * n + 4096) (size n) 4096 (λ h. omega arith) (λ h. omega arith)
+      most : leb (length f) (23 + hashSize * n + mostPayload) ≡ leb (size n) mostPayload
+      most = leb-same (length f) (23 + hashSize * n + mostPayload) (size n) mostPayload (λ h. omega arith) (λ h. omega arith)
 
   pub right-room : shaped Retrieve f ≡ true → (24 ≤ length f) × (payloadFrom f ≤ length f)
-  right-room e = (long, omega (arith, leb-true (suc (payloadFrom f)) (length f) (and-parts (leb (byte 22 f / 16) 8 && eqb (byte 22 f % 16) 0) (ltb (payloadFrom f) (length f)) (tests .0) .1)))
+  right-room e = (long, omega (arith, leb-true (suc (payloadFrom f)) (length f) (and-parts (leb (byte 22 f / 16) mostHashes && eqb (byte 22 f % 16) 0) (ltb (payloadFrom f) (length f)) (tests .0) .1)))
     where
       long : 24 ≤ length f
-      long = omega (arith, body-length, leb-true 20 (length (body f)) (and-parts (leb 20 (length (body f))) (rightFits 20 8 (body f)) e .0))
+      long = omega (arith, body-length, leb-true 20 (length (body f)) (and-parts (leb 20 (length (body f))) (rightFits hashSize mostHashes (body f)) e .0))
 
-      tests : ((leb (byte 22 f / 16) 8 && eqb (byte 22 f % 16) 0 && ltb (payloadFrom f) (length f)) ≡ true) × (leb (length f) (payloadFrom f + 4096) ≡ true)
-      tests = and-parts (leb (byte 22 f / 16) 8 && eqb (byte 22 f % 16) 0 && ltb (payloadFrom f) (length f)) (leb (length f) (payloadFrom f + 4096)) (right-tests long refl refl ∙ e)
+      tests : ((leb (byte 22 f / 16) mostHashes && eqb (byte 22 f % 16) 0 && ltb (payloadFrom f) (length f)) ≡ true) × (leb (length f) (payloadFrom f + mostPayload) ≡ true)
+      tests = and-parts (leb (byte 22 f / 16) mostHashes && eqb (byte 22 f % 16) 0 && ltb (payloadFrom f) (length f)) (leb (length f) (payloadFrom f + mostPayload)) (right-tests long refl refl ∙ e)
 
-  pub key-tests : eqb (length f) 20 ≡ shaped Rek f
-  key-tests = eqb-same (length f) 20 (length (body f)) 16 (λ h. rw body-length (omega arith)) (λ h. omega (arith, body-length))
+  pub key-tests : eqb (length f) (4 + keySize) ≡ shaped Rek f
+  key-tests = eqb-same (length f) (4 + keySize) (length (body f)) keySize (λ h. rw body-length (omega arith)) (λ h. omega (arith, body-length))
 
-  pub key-room : shaped Rek f ≡ true → length f ≡ 20
-  key-room e = eqb-true (length f) 20 (key-tests ∙ e)
+  pub key-room : shaped Rek f ≡ true → length f ≡ 4 + keySize
+  key-room e = eqb-true (length f) (4 + keySize) (key-tests ∙ e)
 
   pub list-short : length f < 5 → false ≡ shaped List' f
   list-short h = rw (body-length, lt-leb 1 (length f - 4) (omega arith))
 
-  pub list-tests : {r : ℕ} → 5 ≤ length f → r ≡ byte 4 f % 128 → (eqb r 0 && eqb ((length f - 5) % 10) 0 && leb (length f - 5) 150) ≡ shaped List' f
+  pub list-tests : {r : ℕ} → 5 ≤ length f → r ≡ byte 4 f % 128 → (eqb r 0 && eqb ((length f - 5) % handleSize) 0 && leb (length f - 5) (handleSize * mostSlots)) ≡ shaped List' f
   list-tests h er =
       let e : length f - 4 - 1 ≡ length f - 5 = omega arith in
       rw (er, body-length, body-byte 0, le-leb 1 (length f - 4) (omega arith), e)
 
   pub list-room : shaped List' f ≡ true → (5 ≤ length f) × (byte 4 f % 128 ≡ 0)
   list-room e =
-      let p = and-parts (leb 1 (length (body f)) && eqb (byte 0 (body f) % 128) 0 && eqb ((length (body f) - 1) % 10) 0) (leb (length (body f) - 1) 150) e in
-      let q = and-parts (leb 1 (length (body f)) && eqb (byte 0 (body f) % 128) 0) (eqb ((length (body f) - 1) % 10) 0) (p .0) in
+      let p = and-parts (leb 1 (length (body f)) && eqb (byte 0 (body f) % 128) 0 && eqb ((length (body f) - 1) % handleSize) 0) (leb (length (body f) - 1) (handleSize * mostSlots)) e in
+      let q = and-parts (leb 1 (length (body f)) && eqb (byte 0 (body f) % 128) 0) (eqb ((length (body f) - 1) % handleSize) 0) (p .0) in
       let r = and-parts (leb 1 (length (body f))) (eqb (byte 0 (body f) % 128) 0) (q .0) in
       (omega (arith, body-length, leb-true 1 (length (body f)) (r .0)), ap (λ (n : ℕ). n % 128) (sym (body-byte 0)) ∙ eqb-true (byte 0 (body f) % 128) 0 (r .1))
 
-  pub info-tests : (ltb 6 (length f) && leb (length f) 4102) ≡ shaped Info f
+  pub info-tests : (ltb 6 (length f) && leb (length f) (6 + mostPayload)) ≡ shaped Info f
   info-tests = rw body-length (go (leb 2 (length f - 4)) refl)
     where
-      go : (t : Bool) → leb 2 (length f - 4) ≡ t → (ltb 6 (length f) && leb (length f) 4102) ≡ (t && (ltb 0 (length f - 4 - 2) && leb (length f - 4 - 2) 4096))
+      go : (t : Bool) → leb 2 (length f - 4) ≡ t → (ltb 6 (length f) && leb (length f) (6 + mostPayload)) ≡ (t && (ltb 0 (length f - 4 - 2) && leb (length f - 4 - 2) mostPayload))
       go true e =
           let h : 2 ≤ length f - 4 = leb-true 2 (length f - 4) e in
           ap₂ (λ (a b : Bool). a && b)
           (leb-same 7 (length f) 1 (length f - 4 - 2) (λ h. omega arith) (λ h. omega arith))
-          (leb-same (length f) 4102 (length f - 4 - 2) 4096 (λ h. omega arith) (λ h. omega arith))
+          (leb-same (length f) (6 + mostPayload) (length f - 4 - 2) mostPayload (λ h. omega arith) (λ h. omega arith))
       go false e = rw (le-ltb 6 (length f) (omega (arith, leb-false 2 (length f - 4) e)))
 
   pub info-room : shaped Info f ≡ true → 6 ≤ length f
-  info-room e = omega (arith, leb-true 7 (length f) (and-parts (ltb 6 (length f)) (leb (length f) 4102) (info-tests ∙ e) .0))
+  info-room e = omega (arith, leb-true 7 (length f) (and-parts (ltb 6 (length f)) (leb (length f) (6 + mostPayload)) (info-tests ∙ e) .0))

@@ -1,11 +1,14 @@
 -- The reader's outcomes, one law each. Assumes nothing.
 use mathlib.Core.Path.{_≡_, refl, sym, ap, _∙_}
-use mathlib.Core.Option.{none}
+use mathlib.Core.List.{List, [], _∷_}
+use mathlib.Core.Option.{Option, none, some}
 use mathlib.Core.Bool.{Bool, true, false, _&&_, not}
 use Prim.Native.Nat.{ℕ, zero, suc, _≤_, _<_}
+use native.Mathlib.Omega.{arith}
+use lib.ListN.{List·getD-eq-default}
 use borrow.Author.Tests.{eq-eqb, ne-eqb, lt-ltb, le-ltb, not-true, not-false}
 use Rattle.profile.specs.Bytes.{Bytes}
-use Rattle.profile.specs.Frame.{Kind, kindOf, isFrame, versionHolds, kindNumber, body, statusIn}
+use Rattle.profile.specs.Frame.{Kind, Setup, Install, Retrieve, Rek, Enable, Remove, Cancel, List', Info, kindOf, lastStatus, isFrame, versionHolds, kindNumber, body, statusIn}
 use Rattle.profile.specs.Device.{none?, shaped}
 use Rattle.reply_reader.specs.declared.answer.Answer.{Answer}
 use Rattle.reply_reader.specs.declared.answer.Answer.the-variants.{Failed}
@@ -38,23 +41,21 @@ module _ (k : Kind) (f : Bytes) {p : Bool} {r : Told} (e : p ≡ shaped k f) whe
 pub of-kind : {kind : ℕ} (n : ℕ) (f : Bytes) {r : Told} → kind ≡ n → r ≡ toldSuccess (kindOf n) f → r ≡ toldSuccess (kindOf kind) f
 of-kind n f e q = q ∙ ap (λ (k : ℕ). toldSuccess (kindOf k) f) (sym e)
 
--- none of the nine
-pub no-kind : (n : ℕ) → (n ≡ 1 → ⊥) → (n ≡ 2 → ⊥) → (n ≡ 3 → ⊥) → (n ≡ 4 → ⊥) → (n ≡ 5 → ⊥) → (n ≡ 6 → ⊥) → (n ≡ 7 → ⊥) → (n ≡ 8 → ⊥) → (n ≡ 9 → ⊥)
-    → (f : Bytes) {r : Told} → r ≡ unread → r ≡ toldSuccess (kindOf n) f
-no-kind n a b c d e g h i j f q = q ∙ ap (λ k. toldSuccess k f) (sym (go n a b c d e g h i j))
+-- what the last arm of a `match` on 1 to n says: none of them
+abbrev NoneTo : ℕ → ℕ → Type 0
+NoneTo zero k = Unit {0}
+NoneTo (suc n) k = NoneTo n k × (k ≡ suc n → ⊥)
+
+above : (n k : ℕ) → (k ≡ 0 → ⊥) → NoneTo n k → n < k
+above zero k z h = omega (arith, z)
+above (suc n) k z h = omega (arith, above n k z (h .0), h .1)
+
+pub no-kind : (k : ℕ) → NoneTo 9 k → kindOf k ≡ none
+no-kind zero h = refl
+no-kind (suc k) h = List·getD-eq-default kinds none {n = suc k} (above 9 (suc k) (λ e. omega arith) h)
   where
-    go : (n : ℕ) → (n ≡ 1 → ⊥) → (n ≡ 2 → ⊥) → (n ≡ 3 → ⊥) → (n ≡ 4 → ⊥) → (n ≡ 5 → ⊥) → (n ≡ 6 → ⊥) → (n ≡ 7 → ⊥) → (n ≡ 8 → ⊥) → (n ≡ 9 → ⊥) → kindOf n ≡ none
-    go zero a b c d e g h i j = refl
-    go (suc zero) a b c d e g h i j = absurd (a refl)
-    go (suc (suc zero)) a b c d e g h i j = absurd (b refl)
-    go (suc (suc (suc zero))) a b c d e g h i j = absurd (c refl)
-    go (suc (suc (suc (suc zero)))) a b c d e g h i j = absurd (d refl)
-    go (suc (suc (suc (suc (suc zero))))) a b c d e g h i j = absurd (e refl)
-    go (suc (suc (suc (suc (suc (suc zero)))))) a b c d e g h i j = absurd (g refl)
-    go (suc (suc (suc (suc (suc (suc (suc zero))))))) a b c d e g h i j = absurd (h refl)
-    go (suc (suc (suc (suc (suc (suc (suc (suc zero)))))))) a b c d e g h i j = absurd (i refl)
-    go (suc (suc (suc (suc (suc (suc (suc (suc (suc zero))))))))) a b c d e g h i j = absurd (j refl)
-    go (suc (suc (suc (suc (suc (suc (suc (suc (suc (suc n)))))))))) a b c d e g h i j = refl
+    kinds : List (Option Kind)
+    kinds = none ∷ some Setup ∷ some Install ∷ some Retrieve ∷ some Rek ∷ some Enable ∷ some Remove ∷ some Cancel ∷ some List' ∷ some Info ∷ []
 
 -- ---- the tests for all kinds
 module _ (f : Bytes) {p : Bool} {r : Told} (e : p ≡ (isFrame f && versionHolds f)) where
@@ -62,14 +63,14 @@ module _ (f : Bytes) {p : Bool} {r : Told} (e : p ≡ (isFrame f && versionHolds
   unfolding told
   told-no-frame h q = q ∙ rw (failed-test e h)
 
-  pub told-no-status : not p ≡ false → 8 < statusIn f → r ≡ unread → r ≡ told f
+  pub told-no-status : not p ≡ false → lastStatus < statusIn f → r ≡ unread → r ≡ told f
   unfolding told
-  told-no-status h s q = q ∙ rw (passed e h, lt-ltb 8 (statusIn f) s)
+  told-no-status h s q = q ∙ rw (passed e h, lt-ltb lastStatus (statusIn f) s)
 
-  pub told-success : {k : ℕ} → not p ≡ false → statusIn f ≤ 8 → statusIn f ≡ 0 → k ≡ kindNumber f → r ≡ toldSuccess (kindOf k) f → r ≡ told f
+  pub told-success : {k : ℕ} → not p ≡ false → statusIn f ≤ lastStatus → statusIn f ≡ 0 → k ≡ kindNumber f → r ≡ toldSuccess (kindOf k) f → r ≡ told f
   unfolding told
-  told-success h s z n q = q ∙ rw (passed e h, le-ltb 8 (statusIn f) s, eq-eqb (statusIn f) 0 z, n)
+  told-success h s z n q = q ∙ rw (passed e h, le-ltb lastStatus (statusIn f) s, eq-eqb (statusIn f) 0 z, n)
 
-  pub told-failed : {k : ℕ} → not p ≡ false → statusIn f ≤ 8 → (statusIn f ≡ 0 → ⊥) → k ≡ kindNumber f → r ≡ toldEmpty (Failed k (statusIn f)) f → r ≡ told f
+  pub told-failed : {k : ℕ} → not p ≡ false → statusIn f ≤ lastStatus → (statusIn f ≡ 0 → ⊥) → k ≡ kindNumber f → r ≡ toldEmpty (Failed k (statusIn f)) f → r ≡ told f
   unfolding told
-  told-failed h s z n q = q ∙ rw (passed e h, le-ltb 8 (statusIn f) s, ne-eqb (statusIn f) 0 z, n)
+  told-failed h s z n q = q ∙ rw (passed e h, le-ltb lastStatus (statusIn f) s, ne-eqb (statusIn f) 0 z, n)

@@ -1,4 +1,4 @@
--- What the reply reader tells, and what that means in document 01's terms.
+-- What the reply reader tells (PROFILE 6.3), and what that means in the profile's terms.
 use Prim.Native.Nat.{ℕ, _+_, _-_, _*_, _/_}
 use mathlib.Core.Path.{_≡_}
 use mathlib.Core.Option.{Option, none, some}
@@ -6,7 +6,7 @@ use mathlib.Core.Bool.{_&&_, not}
 use lib.ListN.{length, drop, replicate}
 use lib.Dec.{eqb, ltb}
 use Rattle.profile.specs.Bytes.{Bytes, if_then_else_, byte, part, word, pieces}
-use Rattle.profile.specs.Sizes.{hashSize}
+use Rattle.profile.specs.Sizes.{handleSize, keySize, hashSize, notAReply}
 use Rattle.profile.specs.Frame.{Kind, Setup, Install, Retrieve, Rek, Enable, Remove, Cancel, List', Info, kindOf, lastStatus, isFrame, versionHolds, kindNumber, body, statusIn}
 use Rattle.profile.specs.Agent.{nothing, theRight, theKey, handles, counted}
 use Rattle.profile.specs.Device.{none?, shaped, Reply, malformed, failed, gave, readReply}
@@ -15,9 +15,9 @@ use Rattle.reply_reader.specs.declared.answer.Answer.the-variants.{Malfo
 use Rattle.reply_reader.specs.declared.answer.Told.{Told}
 
 -- ---- what each case of an answer means
--- "The reply reader refuses with 203": the number of an answer, and of a reply
+-- the number of an answer, and of a reply: 203 where it is refused
 abbrev pub number : Answer → ℕ
-number Malformed = 203
+number Malformed = notAReply
 number (Failed kind status) = 0
 number (Nothing kind) = 0
 number (Right count n hashes at size) = 0
@@ -26,7 +26,7 @@ number (Handles more n at) = 0
 number (Counted count at size) = 0
 
 abbrev pub refusal : Reply → ℕ
-refusal malformed = 203
+refusal malformed = notAReply
 refusal (failed kind status) = 0
 refusal (gave kind g) = 0
 
@@ -37,7 +37,7 @@ meant f key (Failed kind status) = failed kind status
 meant f key (Nothing kind) = gave kind nothing
 meant f key (Right count n hashes at size) = gave 3 (theRight (record { key = key; count = count; hashes = pieces hashSize n (drop hashes f); payload = part at size f }))
 meant f key Key = gave 4 (theKey key)
-meant f key (Handles more n at) = gave 8 (handles more (pieces 10 n (drop at f)))
+meant f key (Handles more n at) = gave 8 (handles more (pieces handleSize n (drop at f)))
 meant f key (Counted count at size) = gave 9 (counted count (part at size f))
 
 abbrev pub meaning : Bytes → Told → Reply
@@ -45,12 +45,12 @@ meaning f t = meant f (t .key) (t .answer)
 
 -- ---- what is told of a frame
 unfoldable pub keyless : Answer → Told
-keyless a = record { answer = a; key = replicate 16 0 }
+keyless a = record { answer = a; key = replicate keySize 0 }
 
 abbrev pub unread : Told
 unread = keyless Malformed
 
--- kind 3: key from 4, count from 20, hash count in 22, hashes from 23, payload behind them
+-- kind 3, by offsets: the key from 4, the count from 20, the hash count in 22, the hashes from 23, the payload after them
 abbrev pub hashesIn : Bytes → ℕ
 hashesIn f = byte 22 f / 16
 
@@ -58,17 +58,17 @@ abbrev pub payloadFrom : Bytes → ℕ
 payloadFrom f = 23 + hashSize * hashesIn f
 
 unfoldable pub rightIn : Bytes → Told
-rightIn f = record { answer = Right (word 20 f) (hashesIn f) 23 (payloadFrom f) (length f - payloadFrom f); key = part 4 16 f }
+rightIn f = record { answer = Right (word 20 f) (hashesIn f) 23 (payloadFrom f) (length f - payloadFrom f); key = part 4 keySize f }
 
--- kind 4: key from 4
+-- kind 4: the key from 4
 unfoldable pub keyIn : Bytes → Told
-keyIn f = record { answer = Key; key = part 4 16 f }
+keyIn f = record { answer = Key; key = part 4 keySize f }
 
--- kind 8: more in 4, handles from 5
+-- kind 8: "more" in 4, the handles from 5
 unfoldable pub listIn : Bytes → Told
-listIn f = keyless (Handles (eqb (byte 4 f / 128) 1) ((length f - 5) / 10) 5)
+listIn f = keyless (Handles (eqb (byte 4 f / 128) 1) ((length f - 5) / handleSize) 5)
 
--- kind 9: count from 4, payload from 6
+-- kind 9: the count from 4, the payload from 6
 unfoldable pub infoIn : Bytes → Told
 infoIn f = keyless (Counted (word 4 f) 6 (length f - 6))
 
@@ -103,7 +103,7 @@ told f =
     else if eqb (statusIn f) 0 then toldSuccess (kindOf (kindNumber f)) f
     else toldEmpty (Failed (kindNumber f) (statusIn f)) f
 
--- what the reader gives of a frame: this value exactly, which means what document 01 says
+-- what the reader gives of a frame: exactly this value, which means what the profile says
 pub record Reads (f : Bytes) (t : Told) : Type 0 where
   pub exact : t ≡ told f
   pub means : meaning f t ≡ readReply f

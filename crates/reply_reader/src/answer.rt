@@ -1,8 +1,13 @@
 // What a reply tells: an enum of numbers and offsets, with the key beside it.
 ghost use mathlib.Core.Path.{_≡_};
 ghost use Rattle.reply_reader.specs.Told.{number};
+use profile::Count;
+use profile::number::DONE;
+use profile::number::NOT_A_REPLY;
+use profile::sizes::KEY_BYTES;
 
-// Offsets count from the frame's first byte. `Malformed` is the number 203; what each case means is `meaning` of specs/Told.
+// The cases of a reply (PROFILE 6.3). `Malformed` is the number 203. Offsets count from the frame's first byte. What each case means
+// is said by `meaning` in specs/Told.
 pub enum Answer {
     Malformed,
     Failed {
@@ -13,7 +18,7 @@ pub enum Answer {
         kind: u8,
     },
     Right {
-        count: u16,
+        count: Count,
         hashes: usize,
         hashes_at: usize,
         payload_at: usize,
@@ -26,43 +31,43 @@ pub enum Answer {
         handles_at: usize,
     },
     Counted {
-        count: u16,
+        count: Count,
         payload_at: usize,
         payload_length: usize,
     },
 }
 
-// The key is that of kinds 3 and 4, and sixteen zeros with any other answer.
+// The key of kinds 3 and 4; with any other answer it is all zero.
 pub struct Told {
     pub answer: Answer,
-    pub key: [u8; 16],
+    pub key: [u8; KEY_BYTES],
 }
 
-// "The reply reader refuses with 203": the number of an answer, 0 where the reply was accepted.
+// The number of an answer: 203 where the reply is refused, 0 where it is accepted.
 pub fn number_of(answer: Answer) -> u16
     ensures { λ r. ⌜ r ≡ number answer ⌝ }
 {
     match answer {
-        Answer::Malformed => 203,
-        Answer::Failed { kind: _, status: _ } => 0,
-        Answer::Nothing { kind: _ } => 0,
+        Answer::Malformed => NOT_A_REPLY,
+        Answer::Failed { kind: _, status: _ } => DONE,
+        Answer::Nothing { kind: _ } => DONE,
         Answer::Right {
             count: _,
             hashes: _,
             hashes_at: _,
             payload_at: _,
             payload_length: _,
-        } => 0,
-        Answer::Key => 0,
+        } => DONE,
+        Answer::Key => DONE,
         Answer::Handles {
             more: _,
             handles: _,
             handles_at: _,
-        } => 0,
+        } => DONE,
         Answer::Counted {
             count: _,
             payload_at: _,
             payload_length: _,
-        } => 0,
+        } => DONE,
     }
 }

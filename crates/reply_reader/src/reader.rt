@@ -1,9 +1,16 @@
-// A reply read, "with 203 unless length, version and zero bits are right, status is 0 to 8, and the body is empty for a status other than 0 or of its kind's shape for 0".
+// A reply read (PROFILE 6.3). It is refused with 203 unless its length, version and zero bits are right, its status is 0 to 8, and its
+// body is of its kind's shape at success and empty at every other status.
 use crate::answer::Answer;
 use crate::answer::Told;
+use profile::sizes::HANDLE_BYTES;
+use profile::sizes::HASH_BYTES;
+use profile::sizes::KEY_BYTES;
+use profile::status::LAST;
+use profile::status::SUCCESS;
 ghost use mathlib.Core.Path.{_≡_};
-ghost use Prim.Native.Nat.{_≤_};
+ghost use Prim.Native.Nat.{_+_, _≤_};
 ghost use lib.ListN.{length};
+ghost use Rattle.profile.specs.Sizes.{keySize};
 ghost use Rattle.profile.specs.Frame.{kindOf, Retrieve, Rek, List', Info};
 ghost use Rattle.reply_reader.specs.Told.{keyless, unread, toldEmpty, payloadFrom, rightIn, keyIn, listIn, infoIn, toldOf, toldSuccess, told, Reads};
 
@@ -11,20 +18,21 @@ ghost use Rattle.reply_reader.specs.Told.{keyless, unread, toldEmpty, pa
 fn without_key(answer: Answer) -> Told
     ensures { λ r. ⌜ r ≡ keyless answer ⌝ }
 {
-    let key = [0u8; 16];
+    let key = [0u8; KEY_BYTES];
     Told {
         answer: answer,
         key: key,
     }
 }
 
+// No reply: 203.
 fn malformed() -> Told
     ensures { λ r. ⌜ r ≡ unread ⌝ }
 {
     without_key(Answer::Malformed)
 }
 
-// "the body is empty", with every status but 0 and for the successes of kinds 1, 2 and 5 to 7.
+// A reply whose body must be empty: of every status but 0, and at success of kinds 1, 2 and 5 to 7.
 fn read_empty(f: &[u8], answer: Answer) -> Told
     ensures { λ r. ⌜ r ≡ toldEmpty answer (now (f .entry)) ⌝ }
 {
@@ -34,14 +42,14 @@ fn read_empty(f: &[u8], answer: Answer) -> Told
     without_key(answer)
 }
 
-// Kind 3: "key, count, hash count 4 bits, 4 zero bits, hashes, payload".
+// Kind 3: a key, a count, the hash count above four zero bits, the hashes and the payload (PROFILE 3.4).
 fn right_in(f: &[u8]) -> Told
     requires { ⌜ (24 ≤ length (now f)) × (payloadFrom (now f) ≤ length (now f)) ⌝ }
     ensures { λ r. ⌜ r ≡ rightIn (now (f .entry)) ⌝ }
 {
     let key = octets::arrays::key_at(f, 4);
     let hashes = crate::shape::wide8(bits::fields::hash_count_of(f[22]));
-    let at = 23 + 20 * hashes;
+    let at = 23 + HASH_BYTES * hashes;
     Told {
         answer: Answer::Right {
             count: words::word_at(f, 20),
@@ -74,7 +82,7 @@ fn read_key(f: &[u8]) -> Told
 }
 
 fn key_in(f: &[u8]) -> Told
-    requires { ⌜ 20 ≤ length (now f) ⌝ }
+    requires { ⌜ 4 + keySize ≤ length (now f) ⌝ }
     ensures { λ r. ⌜ r ≡ keyIn (now (f .entry)) ⌝ }
 {
     let key = octets::arrays::key_at(f, 4);
@@ -84,7 +92,7 @@ fn key_in(f: &[u8]) -> Told
     }
 }
 
-// Kind 8: "more 1 bit, 7 zero bits, handles".
+// Kind 8: the bit "more" above seven zero bits, and the handles.
 fn list_in(f: &[u8]) -> Told
     requires { ⌜ 5 ≤ length (now f) ⌝ }
     ensures { λ r. ⌜ r ≡ listIn (now (f .entry)) ⌝ }
@@ -92,7 +100,7 @@ fn list_in(f: &[u8]) -> Told
     let more = bits::fields::flag_of(f[4]) == 1;
     without_key(Answer::Handles {
         more: more,
-        handles: (f.len() - 5) / 10,
+        handles: (f.len() - 5) / HANDLE_BYTES,
         handles_at: 5,
     })
 }
@@ -106,7 +114,7 @@ fn read_list(f: &[u8]) -> Told
     list_in(f)
 }
 
-// Kind 9: "count, payload".
+// Kind 9: a count and the payload.
 fn info_in(f: &[u8]) -> Told
     requires { ⌜ 6 ≤ length (now f) ⌝ }
     ensures { λ r. ⌜ r ≡ infoIn (now (f .entry)) ⌝ }
@@ -127,7 +135,7 @@ fn read_info(f: &[u8]) -> Told
     info_in(f)
 }
 
-// "no success for kinds outside 1 to 9".
+// Only the kinds 1 to 9 can succeed.
 fn read_success(f: &[u8], kind: u8) -> Told
     ensures { λ r. ⌜ r ≡ toldSuccess (kindOf kind) (now (f .entry)) ⌝ }
 {
@@ -145,7 +153,7 @@ fn read_success(f: &[u8], kind: u8) -> Told
     }
 }
 
-// The tests for all kinds, in the order in which document 01 names them.
+// The tests for all kinds, in their order.
 fn tell(f: &[u8]) -> Told
     ensures { λ r. ⌜ r ≡ told (now (f .entry)) ⌝ }
 {
@@ -154,10 +162,10 @@ fn tell(f: &[u8]) -> Told
     }
     let kind = bits::fields::frame_kind(f[0]);
     let status = f[1];
-    if status > 8 {
+    if status > LAST {
         return malformed();
     }
-    if status == 0 {
+    if status == SUCCESS {
         return read_success(f, kind);
     }
     read_empty(
@@ -169,7 +177,7 @@ fn tell(f: &[u8]) -> Told
     )
 }
 
-// What a frame tells, exactly, which means what document 01 says of it. Any bytes may be read.
+// What a frame tells, exactly, and that it means what the profile says of the frame. Any bytes may be read.
 pub fn read_reply(f: &[u8]) -> Told
     ensures { λ r. ⌜ Reads (now (f .entry)) r ⌝ }
 {

@@ -4,9 +4,10 @@ use mathlib.Core.List.{List, [], _∷_, _++_, append-assoc}
 use Prim.Native.Nat.{ℕ, _+_, _*_, _/_, _%_, _≤_}
 use native.Mathlib.Omega.{arith}
 use lib.ListN.{length, drop, length-append}
-use Rattle.profile.specs.Bytes.{Bytes, part, word, word-bytes, over}
+use Rattle.profile.specs.Bytes.{Bytes, part, word-bytes, over}
+use Rattle.profile.specs.Sizes.{slotSize, replyRoom, mostPayload, keySize, hashSize, mostHashes, keyAt, hashesAt, payloadAt}
 use Rattle.profile.specs.Slot.{Slot}
-use Rattle.profile.specs.Table.{hashCountOf, countBytes, rightOf}
+use Rattle.profile.specs.Table.{hashCountOf, countOf, lengthOf, countBytes, rightOf}
 use Rattle.profile.specs.Frame.{Refusal, code, frame}
 use Rattle.profile.specs.Agent.{Given, theRight, theKey, deny, done, writeGiven, replyFrame}
 use Rattle.profile.proofs.Strings.{length-part, length-pieces, joined-pieces}
@@ -24,7 +25,7 @@ pub head-written : (k v : ℕ) (d : Bytes) → overAt 0 (headOf k v 0) d ≡ ove
 unfolding frame
 head-written k v d = over-start (headOf k v 0) d
 
--- a head, and a body of n bytes behind it
+-- a head, and after it a body of n bytes
 pub body-written : (k v n : ℕ) (b d : Bytes) → length b ≡ n → 4 + n ≤ length d → overAt 4 b (overAt 0 (headOf k v n) d) ≡ over (frame k v b) d
 unfolding frame
 body-written k v n b d e h =
@@ -39,72 +40,75 @@ parts-written k v n m a b d e f h =
     over-more a b (overAt 0 (headOf k v n) d) 4 m e (omega arith)
     ∙ body-written k v n (a ++ b) d (length-append a b ∙ f) h
 
-module _ (s d : Bytes) (len-s : length s ≡ 4288) where
-  key-written : 20 ≤ length d → overAt 4 (part 11 16 s) (overAt 0 (headOf 4 0 16) d) ≡ over (frame 4 0 (writeGiven (theKey (rightOf s .key)))) d
-  key-written h = body-written 4 0 16 (part 11 16 s) d (length-part 11 16 s (omega arith)) h
+module _ (s d : Bytes) (len-s : length s ≡ slotSize) where
+  key-written : 4 + keySize ≤ length d → overAt 4 (part keyAt keySize s) (overAt 0 (headOf 4 0 keySize) d) ≡ over (frame 4 0 (writeGiven (theKey (rightOf s .key)))) d
+  key-written h = body-written 4 0 keySize (part keyAt keySize s) d (length-part keyAt keySize s (omega arith)) h
 
   -- the same, step by step
-  pub key-steps : {d₁ d₂ : Bytes} → d₁ ≡ overAt 0 (headOf 4 0 16) d → d₂ ≡ overAt 4 (part 11 16 s) d₁ → 20 ≤ length d → d₂ ≡ over (frame 4 0 (writeGiven (theKey (rightOf s .key)))) d
+  pub key-steps : {d₁ d₂ : Bytes} → d₁ ≡ overAt 0 (headOf 4 0 keySize) d → d₂ ≡ overAt 4 (part keyAt keySize s) d₁ → 4 + keySize ≤ length d
+      → d₂ ≡ over (frame 4 0 (writeGiven (theKey (rightOf s .key)))) d
   key-steps e₁ e₂ h = rw (e₂, e₁) (key-written h)
 
-  module _ (short : word 29 s ≤ 4096) where
-    payload-length : length (part 192 (word 29 s) s) ≡ word 29 s
-    payload-length = length-part 192 (word 29 s) s (omega arith)
+  module _ (short : lengthOf s ≤ mostPayload) where
+    payload-length : length (part payloadAt (lengthOf s) s) ≡ lengthOf s
+    payload-length = length-part payloadAt (lengthOf s) s (omega arith)
 
-    info-written : 4102 ≤ length d
-        → overAt 6 (part 192 (word 29 s) s) (overAt 4 (word-bytes (word 27 s)) (overAt 0 (headOf 9 0 (2 + word 29 s)) d))
+    info-written : 6 + mostPayload ≤ length d
+        → overAt 6 (part payloadAt (lengthOf s) s) (overAt 4 (word-bytes (countOf s)) (overAt 0 (headOf 9 0 (2 + lengthOf s)) d))
         ≡ over (frame 9 0 (writeGiven (infoOf (rightOf s)))) d
     info-written h =
         let p = payload-length in
-        parts-written 9 0 (2 + word 29 s) 6 (word-bytes (word 27 s)) (part 192 (word 29 s) s) d refl (omega arith) (omega arith)
+        parts-written 9 0 (2 + lengthOf s) 6 (word-bytes (countOf s)) (part payloadAt (lengthOf s) s) d refl (omega arith) (omega arith)
 
-    pub info-steps : {c l : ℕ} {d₁ d₂ d₃ : Bytes} → c ≡ word 27 s → l ≡ word 29 s → d₁ ≡ overAt 0 (headOf 9 0 (2 + l)) d → d₂ ≡ overAt 4 (word-bytes c) d₁ → d₃ ≡ overAt 6 (part 192 l s) d₂
-        → 4102 ≤ length d → d₃ ≡ over (frame 9 0 (writeGiven (infoOf (rightOf s)))) d
+    pub info-steps : {c l : ℕ} {d₁ d₂ d₃ : Bytes} → c ≡ countOf s → l ≡ lengthOf s → d₁ ≡ overAt 0 (headOf 9 0 (2 + l)) d → d₂ ≡ overAt 4 (word-bytes c) d₁ → d₃ ≡ overAt 6 (part payloadAt l s) d₂
+        → 6 + mostPayload ≤ length d → d₃ ≡ over (frame 9 0 (writeGiven (infoOf (rightOf s)))) d
     info-steps ec el e₁ e₂ e₃ h = rw (e₃, e₂, e₁, ec, el) (info-written h)
 
-    module _ (few : hashCountOf s ≤ 8) where
+    module _ (few : hashCountOf s ≤ mostHashes) where
       -- the slot's fields: the key; count and hash count; the hashes
       abbrev k : Bytes
-      k = part 11 16 s
+      k = part keyAt keySize s
 
       abbrev m : Bytes
-      m = countBytes (word 27 s) ++ ((16 * hashCountOf s) ∷ [])
+      m = countBytes (countOf s) ++ ((16 * hashCountOf s) ∷ [])
 
       abbrev hs : Bytes
-      hs = part 31 (20 * hashCountOf s) s
+      hs = part hashesAt (hashSize * hashCountOf s) s
 
-      k-length : length k ≡ 16
-      k-length = length-part 11 16 s (omega arith)
+      k-length : length k ≡ keySize
+      k-length = length-part keyAt keySize s (omega arith)
 
-      hs-length : length hs ≡ 20 * hashCountOf s
-      hs-length = length-part 31 (20 * hashCountOf s) s (omega arith)
+      hs-length : length hs ≡ hashSize * hashCountOf s
+      hs-length = length-part hashesAt (hashSize * hashCountOf s) s (omega arith)
 
       front-length : length (k ++ m) ≡ 19
       front-length = rw (length-append k m, k-length)
 
-      right-is : k ++ m ++ hs ++ part 192 (word 29 s) s ≡ writeGiven (theRight (rightOf s))
-      right-is = rw (length-pieces 20 (hashCountOf s) (drop 31 s), joined-pieces 20 (hashCountOf s) (drop 31 s)) (simp append-assoc)
+      right-is : k ++ m ++ hs ++ part payloadAt (lengthOf s) s ≡ writeGiven (theRight (rightOf s))
+      right-is = rw (length-pieces hashSize (hashCountOf s) (drop hashesAt s), joined-pieces hashSize (hashCountOf s) (drop hashesAt s)) (simp append-assoc)
 
-      right-written : 4279 ≤ length d
-          → overAt (23 + 20 * hashCountOf s) (part 192 (word 29 s) s) (overAt 23 hs (overAt 20 m (overAt 4 k (overAt 0 (headOf 3 0 (19 + 20 * hashCountOf s + word 29 s)) d))))
+      right-written : replyRoom ≤ length d
+          → overAt (23 + hashSize * hashCountOf s) (part payloadAt (lengthOf s) s)
+          (overAt 23 hs (overAt 20 m (overAt 4 k (overAt 0 (headOf 3 0 (19 + hashSize * hashCountOf s + lengthOf s)) d))))
           ≡ over (frame 3 0 (writeGiven (theRight (rightOf s)))) d
       right-written h =
-          let size : ℕ = 19 + 20 * hashCountOf s + word 29 s in
-          let p : Bytes = part 192 (word 29 s) s in
+          let size : ℕ = 19 + hashSize * hashCountOf s + lengthOf s in
+          let p : Bytes = part payloadAt (lengthOf s) s in
           let x : Bytes = overAt 0 (headOf 3 0 size) d in
           let lx : length x ≡ length d = over-length (headOf 3 0 size) d 0 (omega arith) in
           let lp = payload-length in
           let lk = k-length in
           let lh = hs-length in
           let lf = front-length in
-          let lb : length (k ++ m ++ hs) ≡ 19 + 20 * hashCountOf s = length-append (k ++ m) hs ∙ rw (front-length, hs-length) in
+          let lb : length (k ++ m ++ hs) ≡ 19 + hashSize * hashCountOf s = length-append (k ++ m) hs ∙ rw (front-length, hs-length) in
           rw (over-more k m x 4 20 (omega arith) (omega arith), over-more (k ++ m) hs x 4 23 (omega arith) (omega arith))
-          (parts-written 3 0 size (23 + 20 * hashCountOf s) (k ++ m ++ hs) p d (omega arith) (omega arith) (omega arith) ∙ ap (λ (b : Bytes). over (frame 3 0 b) d) right-is)
+          (parts-written 3 0 size (23 + hashSize * hashCountOf s) (k ++ m ++ hs) p d (omega arith) (omega arith) (omega arith) ∙ ap (λ (b : Bytes). over (frame 3 0 b) d) right-is)
 
       -- the same, step by step
-      pub right-steps : {n c l : ℕ} {f d₁ d₂ d₃ d₄ d₅ : Bytes} → n ≡ hashCountOf s → c ≡ word 27 s → l ≡ word 29 s → f ≡ countBytes c ++ ((16 * n) ∷ [])
-          → d₁ ≡ overAt 0 (headOf 3 0 (19 + 20 * n + l)) d → d₂ ≡ overAt 4 (part 11 16 s) d₁ → d₃ ≡ overAt 20 f d₂ → d₄ ≡ overAt 23 (part 31 (20 * n) s) d₃ → d₅ ≡ overAt (23 + 20 * n) (part 192 l s) d₄
-          → 4279 ≤ length d → d₅ ≡ over (frame 3 0 (writeGiven (theRight (rightOf s)))) d
+      pub right-steps : {n c l : ℕ} {f d₁ d₂ d₃ d₄ d₅ : Bytes} → n ≡ hashCountOf s → c ≡ countOf s → l ≡ lengthOf s → f ≡ countBytes c ++ ((16 * n) ∷ [])
+          → d₁ ≡ overAt 0 (headOf 3 0 (19 + hashSize * n + l)) d → d₂ ≡ overAt 4 (part keyAt keySize s) d₁ → d₃ ≡ overAt 20 f d₂
+          → d₄ ≡ overAt 23 (part hashesAt (hashSize * n) s) d₃ → d₅ ≡ overAt (23 + hashSize * n) (part payloadAt l s) d₄
+          → replyRoom ≤ length d → d₅ ≡ over (frame 3 0 (writeGiven (theRight (rightOf s)))) d
       right-steps en ec el ef e₁ e₂ e₃ e₄ e₅ h = rw (e₅, e₄, e₃, e₂, e₁, ef, en, ec, el) (right-written h)
 
 -- ---- as replies

@@ -6,10 +6,10 @@ use Rattle.profile.specs.Slot.{Right}
 use Rattle.profile.specs.Frame.{frameHead}
 use Rattle.profile.specs.Agent.{Given, counted}
 
--- the four bytes in front of a body of n bytes
+-- the four bytes in front of a body of n bytes (PROFILE 3.2)
 abbrev pub headOf : ℕ → ℕ → ℕ → Bytes
 headOf kind status n = frameHead kind ∷ status ∷ word-bytes n
 
--- "count, payload"
+-- the count and the payload
 abbrev pub infoOf : Right → Given
 infoOf r = counted (r .count) (r .payload)

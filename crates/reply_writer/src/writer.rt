@@ -1,16 +1,31 @@
-// Replies written at the start of a lent buffer: "reply-buffer bytes past it keep what they held".
+// Replies written at the start of a lent buffer (PROFILE 3.2 and 3.4). The bytes of the buffer after the reply keep what they held.
 ghost use mathlib.Core.Path.{_≡_};
 ghost use mathlib.Core.List.{[], _∷_, _++_};
 ghost use Prim.Native.Nat.{_+_, _*_, _≤_, _<_};
 ghost use lib.ListN.{length};
-ghost use Rattle.profile.specs.Bytes.{part, word, over};
-ghost use Rattle.profile.specs.Table.{hashCountOf, countBytes, rightOf};
+ghost use Rattle.profile.specs.Bytes.{part, over};
+ghost use Rattle.profile.specs.Sizes.{slotSize, replyRoom, mostPayload, keySize, mostHashes, keyAt};
+ghost use Rattle.profile.specs.Table.{hashCountOf, lengthOf, countBytes, rightOf};
 ghost use Rattle.profile.specs.Frame.{frame};
 ghost use Rattle.profile.specs.Agent.{theRight, theKey, writeGiven};
 ghost use Rattle.buffers.specs.Over.{overAt};
 ghost use Rattle.reply_writer.specs.Written.{headOf, infoOf};
+use profile::Count;
+use profile::sizes::HASH_BYTES;
+use profile::sizes::KEY_BYTES;
+use profile::slot::COUNT_AT;
+use profile::slot::HASHES_AT;
+use profile::slot::KEY_AT;
+use profile::slot::LENGTH_AT;
+use profile::slot::PAYLOAD_AT;
+use profile::status::SUCCESS;
 
-// "Reply: version 3 bits (1), kind 5 bits as asked; status 8 bits; body length 16 bits": the head, in front of a body of n bytes.
+// A key and a hash, as a body length counts them.
+const KEY_LENGTH: u16 = KEY_BYTES as u16;
+
+const HASH_LENGTH: u16 = HASH_BYTES as u16;
+
+// The head of a reply with a body of n bytes: version 1 and the kind as asked, the status, the body length (PROFILE 3.2).
 fn put_head(reply: &mut [u8], kind: u8, status: u8, n: u16)
     requires { ⌜ (kind < 32) × (4 ≤ length (now reply)) ⌝ }
     ensures { λ _. ⌜ now (reply .exit) ≡ overAt 0 (headOf kind status n) (now (reply .entry)) ⌝ }
@@ -19,15 +34,15 @@ fn put_head(reply: &mut [u8], kind: u8, status: u8, n: u16)
     buffers::put_bytes(reply, 0, &head);
 }
 
-// A body's key, as kinds 3 and 4 have it first.
+// The key, which stands first in the bodies of kinds 3 and 4.
 fn put_key(reply: &mut [u8], slot: &[u8])
-    requires { ⌜ (20 ≤ length (now reply)) × (27 ≤ length (now slot)) ⌝ }
-    ensures { λ _. ⌜ now (reply .exit) ≡ overAt 4 (part 11 16 (now (slot .entry))) (now (reply .entry)) ⌝ }
+    requires { ⌜ (4 + keySize ≤ length (now reply)) × (keyAt + keySize ≤ length (now slot)) ⌝ }
+    ensures { λ _. ⌜ now (reply .exit) ≡ overAt 4 (part keyAt keySize (now (slot .entry))) (now (reply .entry)) ⌝ }
 {
-    buffers::put_part(reply, 4, slot, 11, 16);
+    buffers::put_part(reply, 4, slot, KEY_AT, KEY_BYTES);
 }
 
-// "Every status but 0 has an empty body", and so have the successes of kinds 1, 2 and 5 to 7.
+// A reply with an empty body: of every status but 0, and at success of kinds 1, 2 and 5 to 7.
 pub fn reply_status(reply: &mut [u8], kind: u8, status: u8)
     requires { ⌜ (kind < 32) × (4 ≤ length (now reply)) ⌝ }
     ensures { λ _. ⌜ now (reply .exit) ≡ over (frame kind status []) (now (reply .entry)) ⌝ }
@@ -37,27 +52,27 @@ pub fn reply_status(reply: &mut [u8], kind: u8, status: u8)
 
 // Kind 4 at success: the key, from the record's slot.
 pub fn reply_key(reply: &mut [u8], slot: &[u8])
-    requires { ⌜ (20 ≤ length (now reply)) × (length (now slot) ≡ 4288) ⌝ }
+    requires { ⌜ (4 + keySize ≤ length (now reply)) × (length (now slot) ≡ slotSize) ⌝ }
     ensures { λ _. ⌜ now (reply .exit) ≡ over (frame 4 0 (writeGiven (theKey (rightOf (now (slot .entry)) .key)))) (now (reply .entry)) ⌝ }
 {
-    put_head(reply, 4, 0, 16);
+    put_head(reply, 4, SUCCESS, KEY_LENGTH);
     put_key(reply, slot);
 }
 
 // Kind 9 at success: count and payload, from the record's slot.
 pub fn reply_info(reply: &mut [u8], slot: &[u8])
-    requires { ⌜ (4102 ≤ length (now reply)) × (length (now slot) ≡ 4288) × (word 29 (now slot) ≤ 4096) ⌝ }
+    requires { ⌜ (6 + mostPayload ≤ length (now reply)) × (length (now slot) ≡ slotSize) × (lengthOf (now slot) ≤ mostPayload) ⌝ }
     ensures { λ _. ⌜ now (reply .exit) ≡ over (frame 9 0 (writeGiven (infoOf (rightOf (now (slot .entry)))))) (now (reply .entry)) ⌝ }
 {
-    let count = words::word_at(slot, 27);
-    let length = words::word_at(slot, 29);
-    put_head(reply, 9, 0, 2 + length);
+    let count = words::word_at(slot, COUNT_AT);
+    let length = words::word_at(slot, LENGTH_AT);
+    put_head(reply, 9, SUCCESS, 2 + length);
     buffers::put_word(reply, 4, count);
-    buffers::put_part(reply, 6, slot, 192, length as usize);
+    buffers::put_part(reply, 6, slot, PAYLOAD_AT, length as usize);
 }
 
-// What stands between a right's key and its hashes: "count, hash count 4 bits, 4 zero bits".
-fn right_head(count: u16, hashes: u8) -> [u8; 3]
+// What stands between a right's key and its hashes: the count, and the hash count in four bits above four zero bits.
+fn right_head(count: Count, hashes: u8) -> [u8; 3]
     requires { ⌜ hashes < 16 ⌝ }
     ensures { λ r. ⌜ r ≡ countBytes count ++ ((16 * hashes) ∷ []) ⌝ }
 {
@@ -67,20 +82,20 @@ fn right_head(count: u16, hashes: u8) -> [u8; 3]
     [high, low, shifted]
 }
 
-// Kind 3 at success: the record's key, count, hashes and payload, each copied from where it stands in the slot.
+// Kind 3 at success: the record's key, count, hashes and payload, each copied straight from the slot.
 pub fn reply_right(reply: &mut [u8], slot: &[u8])
-    requires { ⌜ (4279 ≤ length (now reply)) × (length (now slot) ≡ 4288) × (hashCountOf (now slot) ≤ 8) × (word 29 (now slot) ≤ 4096) ⌝ }
+    requires { ⌜ (replyRoom ≤ length (now reply)) × (length (now slot) ≡ slotSize) × (hashCountOf (now slot) ≤ mostHashes) × (lengthOf (now slot) ≤ mostPayload) ⌝ }
     ensures { λ _. ⌜ now (reply .exit) ≡ over (frame 3 0 (writeGiven (theRight (rightOf (now (slot .entry)))))) (now (reply .entry)) ⌝ }
 {
     let hashes = bits::fields::slot_hashes(slot[0]);
-    let count = words::word_at(slot, 27);
-    let length = words::word_at(slot, 29);
-    let size = 20 * (hashes as u16);
-    put_head(reply, 3, 0, 19 + size + length);
+    let count = words::word_at(slot, COUNT_AT);
+    let length = words::word_at(slot, LENGTH_AT);
+    let size = HASH_LENGTH * (hashes as u16);
+    put_head(reply, 3, SUCCESS, 19 + size + length);
     put_key(reply, slot);
     let head = right_head(count, hashes);
     buffers::put_bytes(reply, 20, &head);
     let n = size as usize;
-    buffers::put_part(reply, 23, slot, 31, n);
-    buffers::put_part(reply, 23 + n, slot, 192, length as usize);
+    buffers::put_part(reply, 23, slot, HASHES_AT, n);
+    buffers::put_part(reply, 23 + n, slot, PAYLOAD_AT, length as usize);
 }

@@ -12,7 +12,7 @@ use Rattle.profile.specs.Frame.{kindOf}
 
 pub ruleset tests = (eq-eqb, ne-eqb, lt-ltb, le-ltb, le-leb, lt-leb)
 
--- something is left behind s, or nothing
+-- something is left after s, or nothing
 pub left-none : (n s : ℕ) → n ≤ s → ltb 0 (n - s) ≡ false
 left-none n s h = le-ltb 0 (n - s) (omega arith)
 
@@ -24,7 +24,7 @@ abbrev pub NoneOf : List ℕ → ℕ → Type 0
 NoneOf [] k = Unit {0}
 NoneOf (j ∷ js) k = NoneOf js k × (k ≡ j → ⊥)
 
--- "kind not 1 to 9"
+-- a number that is not 1 to 9 is no kind
 pub no-kind : (k : ℕ) → NoneOf (9 ∷ 8 ∷ 7 ∷ 6 ∷ 5 ∷ 4 ∷ 3 ∷ 2 ∷ 1 ∷ []) k → kindOf k ≡ none
 no-kind zero h = refl
 no-kind (suc zero) h = absurd (h .0 .0 .0 .0 .0 .0 .0 .0 .1 refl)

@@ -7,8 +7,8 @@ use native.Mathlib.Omega.{arith}
 use lib.Dec.{eqb, leb}
 use lib.ListN.{length, getD, drop, length-drop}
 use lib.Seq.{drop-drop, take-all, getD-drop}
-use Rattle.profile.specs.Bytes.{Bytes, if_then_else_, byte, part, word, from1to}
-use Rattle.profile.specs.Sizes.{hashSize, mostHashes}
+use Rattle.profile.specs.Bytes.{Bytes, if_then_else_, byte, part, word, zeros, from1to}
+use Rattle.profile.specs.Sizes.{mostPayload, handleSize, keySize, hashSize, mostHashes}
 use Rattle.profile.specs.Frame.{Kind, Setup, Install, Retrieve, Rek, Enable, Remove, Cancel, List', Info, kindOf, kindNumber, isFrame, versionHolds, body, parameter}
 use Rattle.profile.specs.Request.{install, Read, asks, refused, zeroBits, verdict, bodyFits, guarded, fieldsHold, fields, readKind, readRequest}
 use Rattle.profile.proofs.Logic.{and-parts, not-false, eqb-eq, leb-le, from-1-to-says}
@@ -27,7 +27,7 @@ if-alike : {A B : Type 0} (R : A → B → Type 0) (b : Bool) {x y : A} {x' y' :
 if-alike R true p q = p refl
 if-alike R false p q = q refl
 
--- a word, seen from a later place
+-- a word, seen from a later offset
 word-from : (n at : ℕ) (f : Bytes) → word at (drop n f) ≡ word (n + at) f
 word-from n at f = ap₂ (λ (a b : ℕ). 256 * a + b) (getD-drop n f at 0) (getD-drop n f (at + 1) 0 ∙ ap (λ (i : ℕ). getD f i 0) (omega arith))
 
@@ -37,18 +37,22 @@ record Agree (f : Bytes) (a : Asked) (r : Read) : Type 0 where
   ends : AskEnds f (a .ask)
   sizes : Sizes a
 
+-- the arrays of an answer that has none
+none-sized : (a : Asked) → a .handle ≡ zeros handleSize → a .new ≡ zeros handleSize → a .key ≡ zeros keySize → Sizes a
+none-sized a h n k = record { handle-10 = rw h (length-zeros handleSize); new-10 = rw n (length-zeros handleSize); key-16 = rw k (length-zeros keySize) }
+
 refuses : (f : Bytes) (w : Why) → Agree f (refusal w) (whyMeans w)
 unfolding refusal meaning
-refuses f w = record { means = refl; ends = tt; sizes = record { handle-10 = length-zeros 10; new-10 = length-zeros 10; key-16 = length-zeros 16 } }
+refuses f w = record { means = refl; ends = tt; sizes = none-sized (refusal w) refl refl refl }
 
 -- an answer with a handle, and with two
 one-agrees : (f : Bytes) (b : Body) (r : Read) → 14 ≤ length f → meaning f (oneHandle f b) ≡ r → AskEnds f (Yes b) → Agree f (oneHandle f b) r
 unfolding oneHandle
-one-agrees f b r h m e = record { means = m; ends = e; sizes = record { handle-10 = length-part 4 10 f h; new-10 = length-zeros 10; key-16 = length-zeros 16 } }
+one-agrees f b r h m e = record { means = m; ends = e; sizes = record { handle-10 = length-part 4 handleSize f h; new-10 = length-zeros handleSize; key-16 = length-zeros keySize } }
 
 two-agree : (f : Bytes) (b : Body) (r : Read) → 24 ≤ length f → meaning f (twoHandles f b) ≡ r → AskEnds f (Yes b) → Agree f (twoHandles f b) r
 unfolding twoHandles
-two-agree f b r h m e = record { means = m; ends = e; sizes = record { handle-10 = length-part 4 10 f (omega arith); new-10 = length-part 14 10 f h; key-16 = length-zeros 16 } }
+two-agree f b r h m e = record { means = m; ends = e; sizes = record { handle-10 = length-part 4 handleSize f (omega arith); new-10 = length-part 14 handleSize f h; key-16 = length-zeros keySize } }
 
 module _ (f : Bytes) (is : isFrame f ≡ true) where
   abbrev n : ℕ
@@ -60,7 +64,7 @@ module _ (f : Bytes) (is : isFrame f ≡ true) where
   size : length (body f) ≡ n
   size = rw (length-drop 4 f) (omega (arith, long))
 
-  -- the part of the body from a place on is the rest of the frame
+  -- the part of the body from an offset on is the rest of the frame
   rest : (at k : ℕ) → n ≡ at + k → part (4 + at) k f ≡ drop at (body f)
   rest at k e = rw (drop-drop at 4 f) (take-all k (drop (4 + at) f) (rw (length-drop (4 + at) f) (omega (arith, long, e))))
 
@@ -86,8 +90,8 @@ module _ (f : Bytes) (is : isFrame f ≡ true) where
 
   install-ends : installHolds n f ≡ true → InstallEnds f count 33 (n - (29 + hashSize * count))
   install-ends h =
-      let p = and-parts (leb count mostHashes && eqb (byte 32 f % 16) 0) (from1to 4096 (n - (29 + hashSize * count))) h in
-      let q = from-1-to-says 4096 (n - (29 + hashSize * count)) (p .1) in
+      let p = and-parts (leb count mostHashes && eqb (byte 32 f % 16) 0) (from1to mostPayload (n - (29 + hashSize * count))) h in
+      let q = from-1-to-says mostPayload (n - (29 + hashSize * count)) (p .1) in
       record {
         few = leb-le count mostHashes (and-parts (leb count mostHashes) (eqb (byte 32 f % 16) 0) (p .0) .0);
         least = q .0;
@@ -95,18 +99,18 @@ module _ (f : Bytes) (is : isFrame f ≡ true) where
         ends = omega (arith, long, q .0);
       }
 
-  install-fields : installHolds n f ≡ true → install (part 4 10 f) (rightIn f (part 14 16 f) (word 30 f) count 33 (n - (29 + hashSize * count))) ≡ fields Install f
+  install-fields : installHolds n f ≡ true → install (part 4 handleSize f) (rightIn f (part 14 keySize f) (word 30 f) count 33 (n - (29 + hashSize * count))) ≡ fields Install f
   install-fields h =
       rw (from-14, byte-32, word-from 4 26 f, drop-drop 19 14 f, drop-drop (19 + hashSize * count) 14 f, payload)
     where
       e : InstallEnds f count 33 (n - (29 + hashSize * count))
       e = install-ends h
 
-      places : 33 + hashSize * count ≡ 14 + (19 + hashSize * count)
-      places = omega arith
+      offsets : 33 + hashSize * count ≡ 14 + (19 + hashSize * count)
+      offsets = omega arith
 
       payload : part (33 + hashSize * count) (n - (29 + hashSize * count)) f ≡ drop (14 + (19 + hashSize * count)) f
-      payload = take-all (n - (29 + hashSize * count)) (drop (33 + hashSize * count) f) (rw (length-drop (33 + hashSize * count) f) (omega (arith, e .ends))) ∙ ap (λ (i : ℕ). drop i f) places
+      payload = take-all (n - (29 + hashSize * count)) (drop (33 + hashSize * count) f) (rw (length-drop (33 + hashSize * count) f) (omega (arith, e .ends))) ∙ ap (λ (i : ℕ). drop i f) offsets
 
   install-agrees : (b : Bool) → installHolds n f ≡ b → Agree f (ofInstall n f) (if not (fieldsHold Install f) then refused parameter else asks (fields Install f))
   unfolding ofInstall installation meaning
@@ -118,9 +122,9 @@ module _ (f : Bytes) (is : isFrame f ≡ true) where
         ends = e;
         sizes =
             record {
-              handle-10 = length-part 4 10 f (omega (arith, e .ends));
-              new-10 = length-zeros 10;
-              key-16 = length-part 14 16 f (omega (arith, e .ends));
+              handle-10 = length-part 4 handleSize f (omega (arith, e .ends));
+              new-10 = length-zeros handleSize;
+              key-16 = length-part 14 keySize f (omega (arith, e .ends));
             };
       })
   install-agrees false h = rw (install-tests, h) (refuses f Parameter)
@@ -144,7 +148,7 @@ module _ (f : Bytes) (is : isFrame f ≡ true) where
       (record {
         means = rw (byte-6, word-from 4 0 f, drop-drop 3 4 f) refl;
         ends = list-ends h;
-        sizes = record { handle-10 = length-zeros 10; new-10 = length-zeros 10; key-16 = length-zeros 16 };
+        sizes = none-sized (listing f (byte 6 f)) refl refl refl;
       })
   list-agrees false h = rw (list-tests, h) (refuses f Parameter)
 

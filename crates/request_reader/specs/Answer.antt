@@ -3,8 +3,8 @@ use Prim.Native.Nat.{ℕ, _+_, _*_, _≤_}
 use mathlib.Core.Path.{_≡_}
 use lib.ListN.{length, drop}
 use Rattle.profile.specs.Bytes.{Bytes, part, pieces}
-use Rattle.profile.specs.Sizes.{hashSize, mostHashes}
-use Rattle.profile.specs.Slot.{Right}
+use Rattle.profile.specs.Sizes.{mostPayload, handleSize, keySize, hashSize, mostHashes}
+use Rattle.profile.specs.Slot.{Count, Right}
 use Rattle.profile.specs.Frame.{integrity, parameter, unsupported}
 use Rattle.profile.specs.Request.{Request, setup, install, retrieve, rek, enable, remove, cancel, list, info, Read, asks, refused, noFrame, readRequest}
 use Rattle.request_reader.specs.declared.asked.Why.{Why}
@@ -23,11 +23,11 @@ whyMeans Integrity = refused integrity
 whyMeans Parameter = refused parameter
 whyMeans Unsupported = refused unsupported
 
--- ---- the fields; n hashes stand in the frame from a place on, and the payload behind them
+-- ---- the fields: n hashes stand in the frame from an offset on, and the payload follows them
 abbrev pub hashesIn : Bytes → ℕ → ℕ → mathlib.Core.List.List Bytes
 hashesIn f n at = pieces hashSize n (drop at f)
 
-abbrev pub rightIn : Bytes → Bytes → ℕ → ℕ → ℕ → ℕ → Right
+abbrev pub rightIn : Bytes → Bytes → Count → ℕ → ℕ → ℕ → Right
 rightIn f key c n at len = record { key = key; count = c; hashes = hashesIn f n at; payload = part (at + hashSize * n) len f }
 
 abbrev pub bodyMeans : Bytes → Body → Asked → Request
@@ -52,7 +52,7 @@ meaning f r = askMeans f (r .ask) r
 pub record InstallEnds (f : Bytes) (n at len : ℕ) : Type 0 where
   pub few : n ≤ mostHashes
   pub least : 1 ≤ len
-  pub most : len ≤ 4096
+  pub most : len ≤ mostPayload
   pub ends : at + hashSize * n + len ≡ length f
 
 pub record ListEnds (f : Bytes) (n at : ℕ) : Type 0 where
@@ -76,9 +76,9 @@ AskEnds f (Yes b) = BodyEnds f b
 
 -- ---- the lengths of the arrays, the zero ones too
 pub record Sizes (r : Asked) : Type 0 where
-  pub handle-10 : length (r .handle) ≡ 10
-  pub new-10 : length (r .new) ≡ 10
-  pub key-16 : length (r .key) ≡ 16
+  pub handle-10 : length (r .handle) ≡ handleSize
+  pub new-10 : length (r .new) ≡ handleSize
+  pub key-16 : length (r .key) ≡ keySize
 
 -- ---- the promise: the answer is exactly this one, means what the profile reads, and its offsets lie in the frame
 pub record Answers (f : Bytes) (r : Asked) : Type 0 where

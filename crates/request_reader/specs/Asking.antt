@@ -1,10 +1,10 @@
--- What the request reader answers, for every frame: the tests in document 01's order, and the answers.
+-- What the request reader answers, for every frame (PROFILE 4.3 and 6.1): the tests in their order, and the answers.
 use Prim.Native.Nat.{ℕ, _+_, _-_, _*_, _/_, _%_}
 use mathlib.Core.Bool.{Bool, _&&_, not}
 use mathlib.Core.Option.{Option, none, some}
 use lib.Dec.{eqb, leb}
 use Rattle.profile.specs.Bytes.{Bytes, if_then_else_, byte, part, word, zeros, from1to}
-use Rattle.profile.specs.Sizes.{hashSize, mostHashes}
+use Rattle.profile.specs.Sizes.{mostPayload, handleSize, keySize, hashSize, mostHashes}
 use Rattle.profile.specs.Frame.{Kind, Setup, Install, Retrieve, Rek, Enable, Remove, Cancel, List', Info, kindOf, isFrame, versionHolds, kindNumber}
 use Rattle.profile.specs.Request.{verdict, zeroBits, bodyFits, guarded}
 use Rattle.request_reader.specs.declared.asked.Why.{Why}
@@ -16,44 +16,44 @@ use Rattle.request_reader.specs.declared.asked.Asked.{Asked}
 
 -- ---- answers: an array that the kind lacks is all zero
 unfoldable pub refusal : Why → Asked
-refusal w = record { ask = ask.No w; handle = zeros 10; new = zeros 10; key = zeros 16 }
+refusal w = record { ask = ask.No w; handle = zeros handleSize; new = zeros handleSize; key = zeros keySize }
 
--- the handle at byte 4, the new handle or the key at byte 14
+-- the handle is at offset 4, and the new handle or the key at offset 14
 unfoldable pub oneHandle : Bytes → Body → Asked
-oneHandle f b = record { ask = ask.Yes b; handle = part 4 10 f; new = zeros 10; key = zeros 16 }
+oneHandle f b = record { ask = ask.Yes b; handle = part 4 handleSize f; new = zeros handleSize; key = zeros keySize }
 
 unfoldable pub twoHandles : Bytes → Body → Asked
-twoHandles f b = record { ask = ask.Yes b; handle = part 4 10 f; new = part 14 10 f; key = zeros 16 }
+twoHandles f b = record { ask = ask.Yes b; handle = part 4 handleSize f; new = part 14 handleSize f; key = zeros keySize }
 
--- n hashes at byte 33, and len bytes of payload behind them
+-- n hashes from offset 33, and after them len bytes of payload
 unfoldable pub installation : Bytes → ℕ → ℕ → Asked
-installation f n len = record { ask = ask.Yes (body.Install (word 30 f) n 33 len); handle = part 4 10 f; new = zeros 10; key = part 14 16 f }
+installation f n len = record { ask = ask.Yes (body.Install (word 30 f) n 33 len); handle = part 4 handleSize f; new = zeros handleSize; key = part 14 keySize f }
 
--- n hashes at byte 7
+-- n hashes from offset 7
 unfoldable pub listQuery : Bytes → ℕ → Asked
-listQuery f n = record { ask = ask.Yes (body.List (word 4 f) n 7); handle = zeros 10; new = zeros 10; key = zeros 16 }
+listQuery f n = record { ask = ask.Yes (body.List (word 4 f) n 7); handle = zeros handleSize; new = zeros handleSize; key = zeros keySize }
 
 -- ---- the tests of a body of n bytes, by its kind
--- "body length outside the kind's, 2; verdict 0 .., 1"
+-- 2 where the body's length is not its kind's, then 1 where the verdict is 0
 abbrev pub tested : Bool → ℕ → Asked → Asked
 tested fits v a =
     if not fits then refusal why.Parameter
     else if eqb v 0 then refusal why.Integrity
     else a
 
--- kind 2: "hash count over 8, the 4 bits not zero, or payload (body less 29 less 20 times the hash count) not 1 to 4,096 bytes, 2"
+-- kind 2: 2 where the hash count is over 8, one of the 4 zero bits is set, or the payload is not 1 to 4,096 bytes long
 abbrev pub installHolds : ℕ → Bytes → Bool
 installHolds n f =
     leb (byte 32 f / 16) mostHashes
     && eqb (byte 32 f % 16) 0
-    && from1to 4096 (n - (29 + hashSize * (byte 32 f / 16)))
+    && from1to mostPayload (n - (29 + hashSize * (byte 32 f / 16)))
 
 unfoldable pub ofInstall : ℕ → Bytes → Asked
 ofInstall n f =
     if installHolds n f then installation f (byte 32 f / 16) (n - (29 + hashSize * (byte 32 f / 16)))
     else refusal why.Parameter
 
--- kind 8: "hash count over 8, or body not 3 plus 20 times the hash count, 2"
+-- kind 8: 2 where the hash count is over 8, or the body is not exactly as long as its hashes make it
 abbrev pub listHolds : ℕ → Bytes → Bool
 listHolds n f = leb (byte 6 f) mostHashes && eqb n (3 + hashSize * byte 6 f)
 
@@ -72,16 +72,16 @@ ofFields Cancel n f = oneHandle f body.Cancel
 ofFields List' n f = ofList n f
 ofFields Info n f = oneHandle f body.Info
 
--- "verdict 0 for kinds 1 to 7, 1 (8 and 9 ignore it)"
+-- the verdict is heeded for kinds 1 to 7; for kinds 8 and 9 it is taken to be 1
 abbrev pub heeded : Kind → ℕ → ℕ
 heeded k v = if guarded k then v else 1
 
--- "kind not 1 to 9, 3"
+-- 3 where the kind is not 1 to 9
 unfoldable pub ofKind : Option Kind → ℕ → ℕ → Bytes → Asked
 ofKind none n v f = refusal why.Unsupported
 ofKind (some k) n v f = tested (bodyFits k n) (heeded k v) (ofFields k n f)
 
--- ---- the answer to every frame: "104, then the tests for all kinds"
+-- ---- the answer to every frame: first 104, then the tests for all kinds
 unfoldable pub asked : Bytes → Asked
 asked f =
     if not (isFrame f) then refusal why.NoFrame

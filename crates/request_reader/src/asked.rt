@@ -1,11 +1,15 @@
-// The reader's answer: "an enum of numbers and offsets with the handle and key arrays beside it".
+// The reader's answer: an enum of numbers and offsets, with the handles and the key beside it as arrays.
 ghost use mathlib.Core.Path.{_≡_};
 ghost use Prim.Native.Nat.{_≤_};
 ghost use lib.ListN.{length};
 ghost use Rattle.profile.specs.Bytes.{zeros};
+ghost use Rattle.profile.specs.Sizes.{handleSize, keySize};
 ghost use Rattle.request_reader.specs.Asking.{refusal, oneHandle, twoHandles, installation, listQuery};
+use profile::Count;
+use profile::sizes::HANDLE_BYTES;
+use profile::sizes::KEY_BYTES;
 
-// "exactly one refusal": the number 104, or status 1, 2 or 3.
+// Why a frame is no request: the number 104, or the status 1, 2 or 3 (PROFILE 4.1 and 4.3).
 pub enum Why {
     NoFrame,
     Integrity,
@@ -13,14 +17,14 @@ pub enum Why {
     Unsupported,
 }
 
-// A request by its kind. `at` is where its hashes start in the frame, one after another; of kind 2 `length` is the
-// payload's, which starts behind them. No byte of either is copied.
+// A request by its kind. `at` is the offset of its hashes in the frame, which stand one after another. The payload of
+// kind 2 follows its hashes, and `length` is its length. No byte of either is copied.
 pub enum Body {
     Setup {
         length: u16,
     },
     Install {
-        count: u16,
+        count: Count,
         hashes: usize,
         at: usize,
         length: usize,
@@ -28,7 +32,7 @@ pub enum Body {
     Retrieve,
     Rek,
     Enable {
-        count: u16,
+        count: Count,
     },
     Remove,
     Cancel,
@@ -40,32 +44,32 @@ pub enum Body {
     Info,
 }
 
-// "A frame is either a request with its fields or exactly one refusal".
+// A frame is a request with its fields, or it has exactly one refusal (PROFILE 6.1).
 pub enum Ask {
     No(Why),
     Yes(Body),
 }
 
-// An array that the request's kind lacks, or that a refusal has not, is all zero.
+// An array that the kind lacks is all zero, and so is every array of a refusal.
 pub struct Asked {
     pub ask: Ask,
-    pub handle: [u8; 10],
-    pub new: [u8; 10],
-    pub key: [u8; 16],
+    pub handle: [u8; HANDLE_BYTES],
+    pub new: [u8; HANDLE_BYTES],
+    pub key: [u8; KEY_BYTES],
 }
 
 // The handle of a kind that has none.
-fn no_handle() -> [u8; 10]
-    ensures { λ r. ⌜ r ≡ zeros 10 ⌝ }
+fn no_handle() -> [u8; HANDLE_BYTES]
+    ensures { λ r. ⌜ r ≡ zeros handleSize ⌝ }
 {
-    [0u8; 10]
+    [0u8; HANDLE_BYTES]
 }
 
 // The key of a kind that has none.
-fn no_key() -> [u8; 16]
-    ensures { λ r. ⌜ r ≡ zeros 16 ⌝ }
+fn no_key() -> [u8; KEY_BYTES]
+    ensures { λ r. ⌜ r ≡ zeros keySize ⌝ }
 {
-    [0u8; 16]
+    [0u8; KEY_BYTES]
 }
 
 // A refusal has no fields.
@@ -83,7 +87,7 @@ pub fn refuse(why: Why) -> Asked
     }
 }
 
-// The handle stands first in the body.
+// The kinds with one handle: it stands first in the body, at offset 4 of the frame.
 pub fn with_handle(f: &[u8], body: Body) -> Asked
     requires { ⌜ 14 ≤ length (now f) ⌝ }
     ensures { λ r. ⌜ r ≡ oneHandle (now (f .entry)) body ⌝ }
@@ -99,7 +103,7 @@ pub fn with_handle(f: &[u8], body: Body) -> Asked
     }
 }
 
-// Kinds 3 and 4: "handle, new handle".
+// Kinds 3 and 4: a handle and the new handle.
 pub fn with_two(f: &[u8], body: Body) -> Asked
     requires { ⌜ 24 ≤ length (now f) ⌝ }
     ensures { λ r. ⌜ r ≡ twoHandles (now (f .entry)) body ⌝ }
@@ -115,7 +119,7 @@ pub fn with_two(f: &[u8], body: Body) -> Asked
     }
 }
 
-// Kind 2: "handle, key, count 16 bits, hash count 4 bits, 4 zero bits, hashes, payload", whose hashes stand at byte 33.
+// Kind 2: a handle, a key at offset 14, a count at offset 30, the hash count, and from offset 33 the hashes and the payload.
 pub fn with_right(f: &[u8], hashes: usize, payload: usize) -> Asked
     requires { ⌜ 33 ≤ length (now f) ⌝ }
     ensures { λ r. ⌜ r ≡ installation (now (f .entry)) hashes payload ⌝ }
@@ -137,7 +141,7 @@ pub fn with_right(f: &[u8], hashes: usize, payload: usize) -> Asked
     }
 }
 
-// Kind 8: "limit 16 bits, hash count 8 bits, hashes", which stand at byte 7.
+// Kind 8: a limit, the hash count, and the hashes from offset 7.
 pub fn with_hashes(f: &[u8], hashes: usize) -> Asked
     requires { ⌜ 6 ≤ length (now f) ⌝ }
     ensures { λ r. ⌜ r ≡ listQuery (now (f .entry)) hashes ⌝ }

@@ -1,8 +1,9 @@
-// The request reader: "104, then the tests for all kinds, then the field tests of kinds 2 and 8".
+// The request reader (PROFILE 6.1): first 104, then the tests for all kinds (PROFILE 4.3), then the field tests of kinds 2 and 8.
 ghost use mathlib.Core.Path.{_≡_};
-ghost use Prim.Native.Nat.{_+_, _≤_};
+ghost use Prim.Native.Nat.{_+_, _*_, _≤_};
 ghost use lib.ListN.{length};
 ghost use lib.Dec.{eqb, leb};
+ghost use Rattle.profile.specs.Sizes.{handleSize};
 ghost use Rattle.profile.specs.Frame.{kindOf};
 ghost use Rattle.profile.specs.Bytes.{word};
 ghost use Rattle.request_reader.specs.Asking.{tested, oneHandle, twoHandles, ofInstall, ofList, ofKind, asked};
@@ -11,27 +12,34 @@ ghost use Rattle.request_reader.specs.declared.asked.Body.the-variants a
 use crate::asked::Asked;
 use crate::asked::Body;
 use crate::asked::Why;
+use profile::sizes::HANDLE_BYTES;
+use profile::sizes::HASH_BYTES;
+use profile::sizes::MOST_HASHES;
+use profile::sizes::MOST_PAYLOAD;
 
-// A byte as a count.
+// The body length of kinds 3 and 4.
+const TWO_HANDLES: usize = 2 * HANDLE_BYTES;
+
+// A byte, widened.
 fn wide(b: u8) -> usize
     ensures { λ r. ⌜ r ≡ b ⌝ }
 {
     b as usize
 }
 
-// A body length as a length.
+// A word, widened.
 fn wide_word(n: u16) -> usize
     ensures { λ r. ⌜ r ≡ n ⌝ }
 {
     n as usize
 }
 
-// "handle (10)".
-fn read_one(f: &[u8], n: usize, verdict: u8, body: Body) -> Asked
-    requires { ⌜ length (now f) ≡ 4 + n ⌝ }
-    ensures { λ r. ⌜ r ≡ tested (eqb n 10) verdict (oneHandle (now (f .entry)) body) ⌝ }
+// Kinds 6, 7 and 9: a handle. Kinds 1 and 5 too: the word after the handle is in `body` already. `size` is the kind's body length.
+fn read_one(f: &[u8], n: usize, size: usize, verdict: u8, body: Body) -> Asked
+    requires { ⌜ (length (now f) ≡ 4 + n) × (handleSize ≤ size) ⌝ }
+    ensures { λ r. ⌜ r ≡ tested (eqb n size) verdict (oneHandle (now (f .entry)) body) ⌝ }
 {
-    if n != 10 {
+    if n != size {
         return crate::asked::refuse(Why::Parameter);
     }
     if verdict == 0 {
@@ -40,12 +48,12 @@ fn read_one(f: &[u8], n: usize, verdict: u8, body: Body) -> Asked
     crate::asked::with_handle(f, body)
 }
 
-// "handle, new handle (20)".
+// Kinds 3 and 4: a handle and the new handle.
 fn read_two(f: &[u8], n: usize, verdict: u8, body: Body) -> Asked
     requires { ⌜ length (now f) ≡ 4 + n ⌝ }
-    ensures { λ r. ⌜ r ≡ tested (eqb n 20) verdict (twoHandles (now (f .entry)) body) ⌝ }
+    ensures { λ r. ⌜ r ≡ tested (eqb n (2 * handleSize)) verdict (twoHandles (now (f .entry)) body) ⌝ }
 {
-    if n != 20 {
+    if n != TWO_HANDLES {
         return crate::asked::refuse(Why::Parameter);
     }
     if verdict == 0 {
@@ -54,7 +62,7 @@ fn read_two(f: &[u8], n: usize, verdict: u8, body: Body) -> Asked
     crate::asked::with_two(f, body)
 }
 
-// Kind 1: "handle, length 16 bits (12 bytes)". A length of 0 is the agent's to refuse.
+// Kind 1: a handle and a length, 12 bytes. A length of 0 is the agent's to refuse.
 fn read_setup(f: &[u8], n: usize, verdict: u8) -> Asked
     requires { ⌜ length (now f) ≡ 4 + n ⌝ }
     ensures { λ r. ⌜ r ≡ tested (eqb n 12) verdict (oneHandle (now (f .entry)) (body.Setup (word 14 (now (f .entry))))) ⌝ }
@@ -62,14 +70,11 @@ fn read_setup(f: &[u8], n: usize, verdict: u8) -> Asked
     if n != 12 {
         return crate::asked::refuse(Why::Parameter);
     }
-    if verdict == 0 {
-        return crate::asked::refuse(Why::Integrity);
-    }
     let length = words::word_at(f, 14);
-    crate::asked::with_handle(f, Body::Setup { length: length })
+    read_one(f, n, 12, verdict, Body::Setup { length: length })
 }
 
-// Kind 5: "handle, count (12)".
+// Kind 5: a handle and a count, 12 bytes.
 fn read_enable(f: &[u8], n: usize, verdict: u8) -> Asked
     requires { ⌜ length (now f) ≡ 4 + n ⌝ }
     ensures { λ r. ⌜ r ≡ tested (eqb n 12) verdict (oneHandle (now (f .entry)) (body.Enable (word 14 (now (f .entry))))) ⌝ }
@@ -77,37 +82,34 @@ fn read_enable(f: &[u8], n: usize, verdict: u8) -> Asked
     if n != 12 {
         return crate::asked::refuse(Why::Parameter);
     }
-    if verdict == 0 {
-        return crate::asked::refuse(Why::Integrity);
-    }
     let count = words::word_at(f, 14);
-    crate::asked::with_handle(f, Body::Enable { count: count })
+    read_one(f, n, 12, verdict, Body::Enable { count: count })
 }
 
-// The field tests of kind 2, on a body of 30 bytes or more.
+// The field tests of kind 2 (PROFILE 5.2), on a body of 30 bytes or more.
 fn install_fields(f: &[u8], n: usize) -> Asked
     requires { ⌜ (length (now f) ≡ 4 + n) × (30 ≤ n) ⌝ }
     ensures { λ r. ⌜ r ≡ ofInstall n (now (f .entry)) ⌝ }
 {
     let hashes = wide(bits::fields::hash_count_of(f[32]));
-    if hashes > 8 {
+    if hashes > MOST_HASHES {
         return crate::asked::refuse(Why::Parameter);
     }
     if bits::fields::hash_count_rest(f[32]) != 0 {
         return crate::asked::refuse(Why::Parameter);
     }
-    let start = 29 + 20 * hashes;
+    let start = 29 + HASH_BYTES * hashes;
     if n <= start {
         return crate::asked::refuse(Why::Parameter);
     }
     let payload = n - start;
-    if payload > 4096 {
+    if payload > MOST_PAYLOAD {
         return crate::asked::refuse(Why::Parameter);
     }
     crate::asked::with_right(f, hashes, payload)
 }
 
-// Kind 2: "(30 or more)".
+// Kind 2: a body of 30 bytes or more.
 fn read_install(f: &[u8], n: usize, verdict: u8) -> Asked
     requires { ⌜ length (now f) ≡ 4 + n ⌝ }
     ensures { λ r. ⌜ r ≡ tested (leb 30 n) verdict (ofInstall n (now (f .entry))) ⌝ }
@@ -121,7 +123,7 @@ fn read_install(f: &[u8], n: usize, verdict: u8) -> Asked
     install_fields(f, n)
 }
 
-// Kind 8: "limit 16 bits, hash count 8 bits, hashes (3 or more)". Its verdict is ignored.
+// Kind 8: a limit, the hash count and the hashes, 3 bytes or more (PROFILE 5.8). Its verdict is ignored.
 fn read_list(f: &[u8], n: usize) -> Asked
     requires { ⌜ length (now f) ≡ 4 + n ⌝ }
     ensures { λ r. ⌜ r ≡ tested (leb 3 n) 1 (ofList n (now (f .entry))) ⌝ }
@@ -130,16 +132,16 @@ fn read_list(f: &[u8], n: usize) -> Asked
         return crate::asked::refuse(Why::Parameter);
     }
     let count = wide(f[6]);
-    if count > 8 {
+    if count > MOST_HASHES {
         return crate::asked::refuse(Why::Parameter);
     }
-    if n != 3 + 20 * count {
+    if n != 3 + HASH_BYTES * count {
         return crate::asked::refuse(Why::Parameter);
     }
     crate::asked::with_hashes(f, count)
 }
 
-// "kind not 1 to 9, 3"; kinds 8 and 9 ignore the verdict, as if it were 1.
+// A kind that is not 1 to 9 is refused with 3. Kinds 8 and 9 ignore the verdict: it is taken to be 1.
 fn read_kind(f: &[u8], kind: u8, n: usize, verdict: u8) -> Asked
     requires { ⌜ length (now f) ≡ 4 + n ⌝ }
     ensures { λ r. ⌜ r ≡ ofKind (kindOf kind) n verdict (now (f .entry)) ⌝ }
@@ -150,10 +152,10 @@ fn read_kind(f: &[u8], kind: u8, n: usize, verdict: u8) -> Asked
         3 => read_two(f, n, verdict, Body::Retrieve),
         4 => read_two(f, n, verdict, Body::Rek),
         5 => read_enable(f, n, verdict),
-        6 => read_one(f, n, verdict, Body::Remove),
-        7 => read_one(f, n, verdict, Body::Cancel),
+        6 => read_one(f, n, HANDLE_BYTES, verdict, Body::Remove),
+        7 => read_one(f, n, HANDLE_BYTES, verdict, Body::Cancel),
         8 => read_list(f, n),
-        9 => read_one(f, n, 1, Body::Info),
+        9 => read_one(f, n, HANDLE_BYTES, 1, Body::Info),
         _ => crate::asked::refuse(Why::Unsupported),
     }
 }
@@ -183,8 +185,7 @@ fn read_frame(f: &[u8]) -> Asked
     )
 }
 
-// "A frame is either a request with its fields or exactly one refusal", for every byte string; callers take the
-// answer apart by let .. else.
+// Every byte string is a request with its fields, or has exactly one refusal. Callers take the answer apart by let .. else.
 pub fn read_request(f: &[u8]) -> Asked
     ensures { λ r. ⌜ Answers (now (f .entry)) r ⌝ }
 {

@@ -1,57 +1,60 @@
 -- What the writer's tests say of its fields, and the frames of allowed fields as the profile writes them. Assumes nothing.
 use Prim.Native.Nat.{ℕ, _*_, _/_, _%_, _≤_}
-use mathlib.Core.Path.{_≡_, refl, sym, ap₂, _∙_}
+use mathlib.Core.Path.{_≡_, refl, _∙_}
 use mathlib.Core.List.{_∷_, _++_}
 use mathlib.Core.Option.{Option, none, some}
-use mathlib.Core.Bool.{Bool, true, false, _&&_}
+use mathlib.Core.Bool.{Bool, true, false, _&&_, not}
 use native.Mathlib.Omega.{arith}
 use lib.Dec.{eqb, leb}
 use lib.ListN.{length}
 use lib.Seq.{take-all}
 use Rattle.profile.specs.Bytes.{Bytes, word-bytes, from1to, joined, pieces}
-use Rattle.profile.specs.Sizes.{hashSize}
+use Rattle.profile.specs.Sizes.{mostPayload, hashSize, mostHashes, writerFields}
 use Rattle.profile.specs.Frame.{Kind, Install, List', kindOf, frame}
-use Rattle.profile.specs.Request.{writeRequest}
+use Rattle.profile.specs.Request.{writeBody, writeRequest}
 use Rattle.profile.specs.Device.{Fields, wholeHashes, noNew, noRoom, noLimit, requestOf, Written, put, writeKind, write}
+use borrow.Author.Tests.{not-true, not-false}
 use Rattle.profile.proofs.Logic.{and-parts, eqb-eq, leb-le, from-1-to-says}
 use Rattle.profile.proofs.Strings.{length-pieces, joined-pieces}
 use Rattle.request_writer.specs.declared.given.Plain.{Plain}
 use Rattle.request_writer.specs.Writing.{fieldsOf, kindAllows, wrote, rightBody}
 
--- ---- "hash bytes .. a multiple of 20 up to 160"
-pub hashes-few : (s : Bytes) (b : Bool) → (wholeHashes s && b) ≡ true → (length s % 20 ≡ 0) × (length s / 20 ≤ 8)
+-- ---- whole hashes, 8 at the most
+pub hashes-few : (s : Bytes) (b : Bool) → (wholeHashes s && b) ≡ true → (length s % hashSize ≡ 0) × (length s / hashSize ≤ mostHashes)
 hashes-few s b e =
-    let p = and-parts (eqb (length s % 20) 0) (leb (length s / 20) 8) (and-parts (wholeHashes s) b e .0) in
-    (eqb-eq (length s % 20) 0 (p .0), leb-le (length s / 20) 8 (p .1))
+    let p = and-parts (eqb (length s % hashSize) 0) (leb (length s / hashSize) mostHashes) (and-parts (wholeHashes s) b e .0) in
+    (eqb-eq (length s % hashSize) 0 (p .0), leb-le (length s / hashSize) mostHashes (p .1))
 
-hashes-joined : (s : Bytes) → length s % 20 ≡ 0 → joined (pieces hashSize (length s / 20) s) ≡ s
-hashes-joined s e = joined-pieces hashSize (length s / 20) s ∙ take-all (20 * (length s / 20)) s (omega arith)
+hashes-joined : (s : Bytes) → length s % hashSize ≡ 0 → joined (pieces hashSize (length s / hashSize) s) ≡ s
+hashes-joined s e = joined-pieces hashSize (length s / hashSize) s ∙ take-all (hashSize * (length s / hashSize)) s (omega arith)
 
--- ---- "for kind 2 a payload .. 1 to 4,096 bytes"
-pub payload-short : (f : Fields) (w : Bool) (kind : ℕ) → kind ≡ 2 → (w && kindAllows (kindOf kind) f) ≡ true → length (f .payload) ≤ 4096
-unfolding kindAllows
+-- ---- the payload of kind 2
+pub payload-short : (f : Fields) (w : Bool) (kind : ℕ) → kind ≡ 2 → (w && kindAllows (kindOf kind) f) ≡ true → length (f .payload) ≤ mostPayload
 payload-short f w kind k e =
     let p = and-parts w (kindAllows (kindOf 2) f) (rw k at e) .1 in
-    from-1-to-says 4096 (length (f .payload)) (and-parts (noNew f && noRoom f && noLimit f) (from1to 4096 (length (f .payload))) p .1) .1
+    from-1-to-says mostPayload (length (f .payload)) (and-parts (noNew f && noRoom f && noLimit f) (from1to mostPayload (length (f .payload))) p .1) .1
 
 -- ---- the frames of kinds 2 and 8, whose hashes the profile has piece by piece
-pub right-frame : (p : Plain) (x w : Bytes) → length x % 20 ≡ 0 → frame 2 128 (rightBody p (length x / 20) x w) ≡ writeRequest (requestOf Install (fieldsOf p x w))
-unfolding writeRequest
-right-frame p x w e = rw (length-pieces hashSize (length x / 20) x, hashes-joined x e)
+module _ (p : Plain) (x w d : Bytes) {o : Written} (whole : length x % hashSize ≡ 0) where
+  pub right-put : o ≡ put (frame 2 128 (rightBody p (length x / hashSize) x w)) d → o ≡ put (frame 2 128 (writeBody (requestOf Install (fieldsOf p x w)))) d
+  right-put e = rw (length-pieces hashSize (length x / hashSize) x, hashes-joined x whole) e
 
-pub list-frame : (p : Plain) (x w : Bytes) → length x % 20 ≡ 0 → frame 8 128 (word-bytes (p .limit) ++ ((length x / 20) ∷ x)) ≡ writeRequest (requestOf List' (fieldsOf p x w))
-unfolding writeRequest
-list-frame p x w e = rw (length-pieces hashSize (length x / 20) x, hashes-joined x e)
+  pub list-put : o ≡ put (frame 8 128 (word-bytes (p .limit) ++ ((length x / hashSize) ∷ x))) d → o ≡ put (frame 8 128 (writeBody (requestOf List' (fieldsOf p x w)))) d
+  list-put e = rw (length-pieces hashSize (length x / hashSize) x, hashes-joined x whole) e
 
 -- ---- allowed fields are written, and others refused
-pub kind-writes : (k : Kind) (f : Fields) (kind : ℕ) (d : Bytes) (o : Written) → kindOf kind ≡ some k → (wholeHashes (f .hashes) && kindAllows (kindOf kind) f) ≡ true → o ≡ put (writeRequest (requestOf k f)) d → o ≡ writeKind (kindOf kind) f d
-unfolding kindAllows
-kind-writes k f kind d o e h p = rw (e, rw e at h) p
+pub kind-writes : (k : Kind) (f : Fields) (kind : ℕ) (d : Bytes) {o : Written} → kindOf kind ≡ some k → (wholeHashes (f .hashes) && kindAllows (kindOf kind) f) ≡ true
+    → o ≡ put (writeRequest (requestOf k f)) d → o ≡ writeKind (kindOf kind) f d
+kind-writes k f kind d e h p = rw (e, rw e at h) p
 
-pub fields-refused : (f : Fields) (kind : ℕ) (d : Bytes) (w a : Bool) → w ≡ wholeHashes (f .hashes) → a ≡ kindAllows (kindOf kind) f → (w && a) ≡ false → wrote 202 d ≡ write kind f d
-unfolding write kindAllows
-fields-refused f kind d w a p q e = go (kindOf kind) (ap₂ (λ (x y : Bool). x && y) (sym p) (sym q) ∙ e)
-  where
-    go : (k : Option Kind) → (wholeHashes (f .hashes) && kindAllows k f) ≡ false → wrote 202 d ≡ writeKind k f d
-    go none h = refl
-    go (some k) h = rw h
+module _ (f : Fields) (kind : ℕ) {w a : Bool} (wh : w ≡ wholeHashes (f .hashes)) (al : a ≡ kindAllows (kindOf kind) f) where
+  pub fields-allowed : not (w && a) ≡ false → (wholeHashes (f .hashes) && kindAllows (kindOf kind) f) ≡ true
+  fields-allowed e = rw (← wh, ← al) (not-false (w && a) e)
+
+  pub fields-refused : (d : Bytes) → not (w && a) ≡ true → wrote writerFields d ≡ write kind f d
+  unfolding write
+  fields-refused d e = go (kindOf kind) (rw (← wh, ← al) (not-true (w && a) e))
+    where
+      go : (k : Option Kind) → (wholeHashes (f .hashes) && kindAllows k f) ≡ false → wrote writerFields d ≡ writeKind k f d
+      go none h = refl
+      go (some k) h = rw h

@@ -1,5 +1,5 @@
--- "A written request reads back to its fields", of the code: what the writer leaves in the buffer with the number 0, and the reader's answer to it.
--- Assumes nothing.
+-- A written request reads back to its fields (PROFILE 6.4), of the code: what the writer leaves in the buffer with the number 0, and the
+-- reader's answer to it. Assumes nothing.
 use Prim.Native.Nat.{ℕ, _≤_}
 use mathlib.Core.Path.{_≡_, refl, sym, ap, _∙_}
 use mathlib.Core.Option.{some}

@@ -4,25 +4,16 @@ use mathlib.Core.List.{_∷_, _++_}
 use mathlib.Core.Option.{Option, none, some}
 use mathlib.Core.Bool.{Bool, false}
 use Rattle.profile.specs.Bytes.{Bytes, word-bytes}
+use Rattle.profile.specs.Table.{countBytes}
 use Rattle.profile.specs.Frame.{Kind, frameHead}
-use Rattle.profile.specs.Device.{Fields, kindHolds, Written}
+use Rattle.profile.specs.Device.{Fields, fieldsWith, kindHolds, Written}
 use Rattle.request_writer.specs.declared.given.Plain.{Plain}
 
 abbrev pub fieldsOf : Plain → Bytes → Bytes → Fields
-fieldsOf p hashes payload =
-    record {
-      handle = p .handle;
-      new = p .new;
-      key = p .key;
-      room = p .room;
-      count = p .count;
-      limit = p .limit;
-      hashes = hashes;
-      payload = payload;
-    }
+fieldsOf p hashes payload = fieldsWith (p .handle) (p .new) (p .key) (p .room) (p .count) (p .limit) hashes payload
 
 -- the kind's own tests, which no other number passes
-unfoldable pub kindAllows : Option Kind → Fields → Bool
+abbrev pub kindAllows : Option Kind → Fields → Bool
 kindAllows none f = false
 kindAllows (some k) f = kindHolds k f
 
@@ -36,4 +27,4 @@ started kind n b = frameHead kind ∷ 128 ∷ word-bytes n ++ b
 
 -- the body of kind 2 with n hashes
 abbrev pub rightBody : Plain → ℕ → Bytes → Bytes → Bytes
-rightBody p n hashes payload = p .handle ++ (p .key ++ (word-bytes (p .count) ++ ((16 * n) ∷ (hashes ++ payload))))
+rightBody p n hashes payload = p .handle ++ (p .key ++ (countBytes (p .count) ++ ((16 * n) ∷ (hashes ++ payload))))

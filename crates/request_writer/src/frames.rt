@@ -1,16 +1,28 @@
-// Requests written part by part: "201 buffer shorter than the frame", and else the frame with the verdict 1 and the rest as found.
+// Requests written part by part (PROFILE 3.1 and 3.3): 201 where the buffer is shorter than the frame, and else the frame, with the
+// verdict 1. The rest of the buffer stays as found.
 ghost use mathlib.Core.Path.{_≡_};
 ghost use mathlib.Core.List.{_∷_, [], _++_};
 ghost use Prim.Native.Nat.{_≤_, _<_};
 ghost use lib.ListN.{length};
 ghost use Rattle.buffers.specs.Over.{overAt};
 ghost use Rattle.profile.specs.Bytes.{word-bytes};
+ghost use Rattle.profile.specs.Sizes.{mostPayload, hashRoom};
 ghost use Rattle.profile.specs.Frame.{frame};
 ghost use Rattle.profile.specs.Device.{put};
 ghost use Rattle.request_writer.specs.Writing.{wrote, started, rightBody};
 use crate::given::Plain;
+use profile::Count;
+use profile::number::DONE;
+use profile::number::WRITER_BUFFER_SHORT;
+use profile::sizes::HANDLE_BYTES;
+use profile::sizes::KEY_BYTES;
 
-// The head of a body of n bytes: "writes the verdict as 1", above seven zero bits.
+// A handle and two of them, as a body length counts them.
+const HANDLE_LENGTH: u16 = HANDLE_BYTES as u16;
+
+const HANDLES_LENGTH: u16 = 2 * HANDLE_LENGTH;
+
+// The head of a body of n bytes, with the verdict 1 above seven zero bits.
 fn request_head(kind: u8, n: u16) -> [u8; 4]
     requires { ⌜ kind < 32 ⌝ }
     ensures { λ r. ⌜ r ≡ started kind n [] ⌝ }
@@ -20,7 +32,7 @@ fn request_head(kind: u8, n: u16) -> [u8; 4]
 }
 
 // The head of a body of n bytes, and the handle that stands first in it.
-fn put_handle(out: &mut [u8], kind: u8, n: u16, handle: [u8; 10])
+fn put_handle(out: &mut [u8], kind: u8, n: u16, handle: [u8; HANDLE_BYTES])
     requires { ⌜ (kind < 32) × (14 ≤ length (now out)) ⌝ }
     ensures { λ _. ⌜ now (out .exit) ≡ overAt 0 (started kind n handle) (now (out .entry)) ⌝ }
 {
@@ -38,63 +50,75 @@ fn counted(word: u16, hashes: u8) -> [u8; 3]
     [high, low, hashes]
 }
 
-// "handle (10)".
-pub fn write_one(out: &mut [u8], kind: u8, handle: [u8; 10]) -> u16
+// Kinds 6, 7 and 9: a handle.
+pub fn write_one(out: &mut [u8], kind: u8, handle: [u8; HANDLE_BYTES]) -> u16
     requires { ⌜ kind < 32 ⌝ }
     ensures { λ r. ⌜ wrote r (now (out .exit)) ≡ put (frame kind 128 handle) (now (out .entry)) ⌝ }
 {
     if out.len() < 14 {
-        return 201;
+        return WRITER_BUFFER_SHORT;
     }
-    put_handle(out, kind, 10, handle);
-    0
+    put_handle(out, kind, HANDLE_LENGTH, handle);
+    DONE
 }
 
-// "handle, new handle (20)".
-pub fn write_two(out: &mut [u8], kind: u8, handle: [u8; 10], new: [u8; 10]) -> u16
+// Kinds 3 and 4: a handle and the new handle.
+pub fn write_two(
+    out: &mut [u8],
+    kind: u8,
+    handle: [u8; HANDLE_BYTES],
+    new: [u8; HANDLE_BYTES],
+) -> u16
     requires { ⌜ kind < 32 ⌝ }
     ensures { λ r. ⌜ wrote r (now (out .exit)) ≡ put (frame kind 128 (handle ++ new)) (now (out .entry)) ⌝ }
 {
     if out.len() < 24 {
-        return 201;
+        return WRITER_BUFFER_SHORT;
     }
-    put_handle(out, kind, 20, handle);
+    put_handle(out, kind, HANDLES_LENGTH, handle);
     buffers::put_bytes(out, 14, &new);
-    0
+    DONE
 }
 
-// "handle, length 16 bits (12 bytes)", and "handle, count (12)".
-pub fn write_word(out: &mut [u8], kind: u8, handle: [u8; 10], word: u16) -> u16
+// Kinds 1 and 5: a handle, and a length or a count.
+pub fn write_word(out: &mut [u8], kind: u8, handle: [u8; HANDLE_BYTES], word: u16) -> u16
     requires { ⌜ kind < 32 ⌝ }
     ensures { λ r. ⌜ wrote r (now (out .exit)) ≡ put (frame kind 128 (handle ++ word-bytes word)) (now (out .entry)) ⌝ }
 {
     if out.len() < 16 {
-        return 201;
+        return WRITER_BUFFER_SHORT;
     }
     put_handle(out, kind, 12, handle);
     buffers::put_word(out, 14, word);
-    0
+    DONE
 }
 
-// "limit 16 bits, hash count 8 bits, hashes", with n hashes.
+// Kind 8: a limit, the hash count n and the hashes.
 pub fn write_hashes(out: &mut [u8], limit: u16, n: u8, hashes: &[u8]) -> u16
-    requires { ⌜ length (now hashes) ≤ 160 ⌝ }
+    requires { ⌜ length (now hashes) ≤ hashRoom ⌝ }
     ensures { λ r. ⌜ wrote r (now (out .exit)) ≡ put (frame 8 128 (word-bytes limit ++ (n ∷ now (hashes .entry)))) (now (out .entry)) ⌝ }
 {
     let size = 3 + hashes.len();
     if out.len() < 4 + size {
-        return 201;
+        return WRITER_BUFFER_SHORT;
     }
     let head = request_head(8, size as u16);
     buffers::put_bytes(out, 0, &head);
     let three = counted(limit, n);
     buffers::put_bytes(out, 4, &three);
     buffers::put_bytes(out, 7, hashes);
-    0
+    DONE
 }
 
 // Handle, key, count and hash count of kind 2, in front of its hashes; n is the byte of the hash count.
-fn put_right(out: &mut [u8], size: u16, handle: [u8; 10], key: [u8; 16], count: u16, n: u8)
+fn put_right(
+    out: &mut [u8],
+    size: u16,
+    handle: [u8; HANDLE_BYTES],
+    key: [u8; KEY_BYTES],
+    count: Count,
+    n: u8,
+)
     requires { ⌜ 33 ≤ length (now out) ⌝ }
     ensures { λ _. ⌜ now (out .exit) ≡ overAt 0 (started 2 size (handle ++ key ++ (word-bytes count ++ (n ∷ [])))) (now (out .entry)) ⌝ }
 {
@@ -104,15 +128,15 @@ fn put_right(out: &mut [u8], size: u16, handle: [u8; 10], key: [u8; 16], count: 
     buffers::put_bytes(out, 30, &three);
 }
 
-// "handle, key, count 16 bits, hash count 4 bits, 4 zero bits, hashes, payload", with n hashes.
+// Kind 2: a handle, a key, a count, the hash count n above four zero bits, the hashes and the payload.
 pub fn write_right(out: &mut [u8], p: Plain, n: u8, hashes: &[u8], payload: &[u8]) -> u16
-    requires { ⌜ (n < 16) × ((length (now hashes) ≤ 160) × (length (now payload) ≤ 4096)) ⌝ }
+    requires { ⌜ (n < 16) × ((length (now hashes) ≤ hashRoom) × (length (now payload) ≤ mostPayload)) ⌝ }
     ensures { λ r. ⌜ wrote r (now (out .exit)) ≡ put (frame 2 128 (rightBody p n (now (hashes .entry)) (now (payload .entry)))) (now (out .entry)) ⌝ }
 {
-    let behind = 33 + hashes.len();
-    let end = behind + payload.len();
+    let after = 33 + hashes.len();
+    let end = after + payload.len();
     if out.len() < end {
-        return 201;
+        return WRITER_BUFFER_SHORT;
     }
     let handle = p.handle;
     let key = p.key;
@@ -125,6 +149,6 @@ pub fn write_right(out: &mut [u8], p: Plain, n: u8, hashes: &[u8], payload: &[u8
         bits::fields::hash_count_byte(n),
     );
     buffers::put_bytes(out, 33, hashes);
-    buffers::put_bytes(out, behind, payload);
-    0
+    buffers::put_bytes(out, after, payload);
+    DONE
 }

@@ -1,30 +1,37 @@
-// The fields that the request writer is given, and the tests on them, which give 202.
+// The fields that the request writer is given (PROFILE 6.2), and the tests on them, which give 202.
 ghost use mathlib.Core.Path.{_≡_};
 ghost use lib.ListN.{length};
 ghost use Rattle.profile.specs.Bytes.{allZero, from1to};
+ghost use Rattle.profile.specs.Sizes.{mostPayload};
 ghost use Rattle.profile.specs.Frame.{kindOf};
 ghost use Rattle.profile.specs.Device.{none?, wholeHashes};
 ghost use Rattle.request_writer.specs.Writing.{fieldsOf, kindAllows};
+use profile::Count;
+use profile::sizes::HANDLE_BYTES;
+use profile::sizes::HASH_BYTES;
+use profile::sizes::KEY_BYTES;
+use profile::sizes::MOST_HASHES;
+use profile::sizes::MOST_PAYLOAD;
 
-// All fields but the hashes and the payload, which stay where the caller has them. `room` is the length of kind 1.
+// All fields but the hashes and the payload, which are lent and not copied. `room` is the length of kind 1.
 pub struct Plain {
-    pub handle: [u8; 10],
-    pub new: [u8; 10],
-    pub key: [u8; 16],
+    pub handle: [u8; HANDLE_BYTES],
+    pub new: [u8; HANDLE_BYTES],
+    pub key: [u8; KEY_BYTES],
     pub room: u16,
-    pub count: u16,
+    pub count: Count,
     pub limit: u16,
 }
 
 // Whether a handle that the kind lacks is zero.
-fn zero_handle(h: [u8; 10]) -> bool
+fn zero_handle(h: [u8; HANDLE_BYTES]) -> bool
     ensures { λ r. ⌜ r ≡ allZero h ⌝ }
 {
     zeros::all_zero(&h)
 }
 
 // Whether a key that the kind lacks is zero.
-fn zero_key(k: [u8; 16]) -> bool
+fn zero_key(k: [u8; KEY_BYTES]) -> bool
     ensures { λ r. ⌜ r ≡ allZero k ⌝ }
 {
     zeros::all_zero(&k)
@@ -37,21 +44,21 @@ fn empty(s: &[u8]) -> bool
     s.len() == 0
 }
 
-// "hash bytes not a multiple of 20 up to 160" are refused.
+// The hash bytes must be whole hashes, 8 at the most.
 pub fn whole_hashes(s: &[u8]) -> bool
     ensures { λ r. ⌜ r ≡ wholeHashes (now (s .entry)) ⌝ }
 {
-    (s.len() % 20 == 0) & (s.len() / 20 <= 8)
+    (s.len() % HASH_BYTES == 0) & (s.len() / HASH_BYTES <= MOST_HASHES)
 }
 
-// "for kind 2 a payload not 1 to 4,096 bytes" is refused.
+// The payload of kind 2 must be 1 to 4,096 bytes long.
 fn payload_fits(s: &[u8]) -> bool
-    ensures { λ r. ⌜ r ≡ from1to 4096 (length (now (s .entry))) ⌝ }
+    ensures { λ r. ⌜ r ≡ from1to mostPayload (length (now (s .entry))) ⌝ }
 {
-    (0 < s.len()) & (s.len() <= 4096)
+    (0 < s.len()) & (s.len() <= MOST_PAYLOAD)
 }
 
-// "kind not 1 to 9 .. or a field that the kind lacks and that is not empty or zero" is refused: whether none of it holds.
+// The kind must be 1 to 9, and every field that it lacks must be empty or zero; kind 2 must have a payload that fits.
 pub fn kind_allows(kind: u8, p: Plain, hashes: &[u8], payload: &[u8]) -> bool
     ensures { λ r. ⌜ r ≡ kindAllows (kindOf kind) (fieldsOf p (now (hashes .entry)) (now (payload .entry))) ⌝ }
 {

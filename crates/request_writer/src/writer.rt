@@ -1,10 +1,12 @@
-// The request writer: 202, then 201, then the frame.
+// The request writer (PROFILE 6.2): 202, then 201, then the frame.
 ghost use mathlib.Core.Path.{_≡_};
 ghost use mathlib.Core.Bool.{true, _&&_};
 ghost use Rattle.profile.specs.Frame.{kindOf};
 ghost use Rattle.profile.specs.Device.{wholeHashes, writeKind, write};
 ghost use Rattle.request_writer.specs.Writing.{fieldsOf, kindAllows, wrote};
 use crate::given::Plain;
+use profile::number::WRITER_FIELDS;
+use profile::sizes::HASH_BYTES;
 
 // The parts of each kind, once its fields are allowed.
 fn write_kind(kind: u8, p: Plain, hashes: &[u8], payload: &[u8], out: &mut [u8]) -> u16
@@ -13,7 +15,7 @@ fn write_kind(kind: u8, p: Plain, hashes: &[u8], payload: &[u8], out: &mut [u8])
 {
     let handle = p.handle;
     let new = p.new;
-    let n = (hashes.len() / 20) as u8;
+    let n = (hashes.len() / HASH_BYTES) as u8;
     match kind {
         1 => crate::frames::write_word(out, 1, handle, p.room),
         2 => crate::frames::write_right(out, p, n, hashes, payload),
@@ -24,18 +26,19 @@ fn write_kind(kind: u8, p: Plain, hashes: &[u8], payload: &[u8], out: &mut [u8])
         7 => crate::frames::write_one(out, 7, handle),
         8 => crate::frames::write_hashes(out, p.limit, n, hashes),
         9 => crate::frames::write_one(out, 9, handle),
-        _ => 202,
+        _ => WRITER_FIELDS,
     }
 }
 
-// "The writer takes a kind and fields, writes the verdict as 1 .. and refuses, in order: 202 ..; 201 buffer shorter than the frame."
+// A kind and fields, written as a request with the verdict 1. It is refused with 202 for its kind or fields, and then with 201 where the
+// buffer is shorter than the frame.
 pub fn write_request(kind: u8, p: Plain, hashes: &[u8], payload: &[u8], out: &mut [u8]) -> u16
     ensures { λ r. ⌜ wrote r (now (out .exit)) ≡ write kind (fieldsOf p (now (hashes .entry)) (now (payload .entry))) (now (out .entry)) ⌝ }
 {
     let whole = crate::given::whole_hashes(hashes);
     let allowed = whole & crate::given::kind_allows(kind, p, hashes, payload);
     if !allowed {
-        return 202;
+        return WRITER_FIELDS;
     }
     write_kind(kind, p, hashes, payload, out)
 }

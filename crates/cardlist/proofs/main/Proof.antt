@@ -23,14 +23,19 @@ slice-aggregate-list c = search needs
 list-requires : tie.Need-list-requires
 list-requires c κs = search needs
 
+inside : (m : tie.After-list) → m .list .result ≤ length (m .list .last .1 .0)
+inside m =
+    let l = m .list in
+    let read = m .before .before .before .before .read-full in
+    listing-inside (take (read .result) (read .last .1 .0)) _ (l .last .1 .0) (l .result) (l .ensures .0) (l .ensures .1)
+
 array-share-prefix-text : tie.Need-array-share-prefix-text
-array-share-prefix-text c = listing-inside (take (c .before .before .before .before .read-full .result) (c .before .before .before .before .read-full .last .1 .0)) _ (c .list .last .1 .0) (c .list .result) (c .list .ensures .0) (c .list .ensures .1)
+array-share-prefix-text c = inside c
 
 slice-aggregate-write-all : tie.Need-slice-aggregate-write-all
 slice-aggregate-write-all c =
     let l = c .before .list in
-    let read = c .before .before .before .before .before .read-full in
-    sym (length-take-le (l .result) (l .last .1 .0) (listing-inside (take (read .result) (read .last .1 .0)) _ (l .last .1 .0) (l .result) (l .ensures .0) (l .ensures .1)))
+    sym (length-take-le (l .result) (l .last .1 .0) (inside (c .before)))
 
 write-all-requires : tie.Need-write-all-requires
 write-all-requires c κs = search needs

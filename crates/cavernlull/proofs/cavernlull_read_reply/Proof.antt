@@ -13,12 +13,19 @@ number-of-requires : tie.Need-number-of-requires
 number-of-requires c κs = search needs
 
 numbers-of-requires : tie.Need-numbers-of-requires
-numbers-of-requires c κs = reads-small (now (c .before .before .before .before .before .args .frame)) _ (c .before .before .before .read-reply .ensures)
+numbers-of-requires c κs =
+    let read = c .before .before .before in
+    let start = read .before .before in
+    reads-small (now (start .args .frame)) _ (read .read-reply .ensures)
 
 returns : tie.Need-returns
 returns c =
-    let start = c .before .before .before .before .before .before in
-    read-into (now (start .args .frame)) (now (start .args .key)) (now (start .args .fields)) _ (c .before .before .before .before .read-reply .ensures) _ (c .before .before .before .number-of .ensures) (c .before .before .if1 .taken) _ (c .numbers-of .ensures)
+    let accepted = c .before .before in
+    let numbered = accepted .before in
+    let read = numbered .before in
+    let start = read .before .before in
+    read-into (now (start .args .frame)) (now (start .args .key)) (now (start .args .fields)) _ (read .read-reply .ensures) _ (numbered .number-of .ensures) (accepted .if1 .taken) _
+    (c .numbers-of .ensures)
 
 returns-2 : tie.Need-returns-2
 returns-2 c =

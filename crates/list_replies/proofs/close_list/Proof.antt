@@ -1,4 +1,4 @@
--- `list_replies::close_list` meets its contract: a head, and the byte behind it. Assumes nothing.
+-- `list_replies::close_list` meets its contract: a head, and the byte after it. Assumes nothing.
 use denote.Ref.{now}
 use Rattle.list_replies.proofs.Growing.{start-steps}
 use borrow.Author.Needs.{needs}
@@ -37,9 +37,13 @@ same-length c = search needs
 
 returns : tie.Need-returns
 returns c =
-    let start = c .before .before .before .before .before .before .before .before .before .before .before .before .before in
+    let last = c .before .before in
+    let flagged = last .before .before .before in
+    let headed = flagged .before .before .before in
+    let made = headed .before .before .before in
+    let start = made .before .before in
     let a = start .args in
-    start-steps (a .n) (a .more) (now (a .reply)) (c .before .before .before .before .before .before .before .before .before .before .before .frame-start .ensures) (c .before .before .before .before .before .flag-byte .ensures) (c .before .before .before .before .before .before .before .before .put-bytes .ensures) (c .before .before .put-bytes2 .ensures) (start .pre .1)
+    start-steps (a .n) (a .more) (now (a .reply)) (made .frame-start .ensures) (flagged .flag-byte .ensures) (headed .put-bytes .ensures) (last .put-bytes2 .ensures) (start .pre .1)
 
 pub close-list-spec : {M : Type 1} → statement M
 close-list-spec =

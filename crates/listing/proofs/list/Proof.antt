@@ -1,12 +1,17 @@
 -- `listing::list` meets its contract: refused, or the header and the lines. Assumes nothing.
 use denote.Ref.{now}
-use mathlib.Core.Path.{sym, _∙_}
 use native.Mathlib.Omega.{arith}
-use borrow.Author.Tests.{not-true, not-false}
-use Rattle.listing.proofs.Whole.{listed-102, listed-103, listed-lines}
+use Rattle.listing.specs.Written.{Listable}
+use Rattle.listing.proofs.Whole.{listable, listed-102, listed-103, listed-lines}
 use borrow.Author.Needs.{needs}
 use Rattle.listing.proofs.list.Statement.{statement}
 use Rattle.listing.proofs.list.Tie as tie
+
+fits : (m : tie.Else2) → Listable (now (m .before .before .before .before .before .args .table))
+fits m =
+    let well = m .before in
+    let whole = well .before .before in
+    listable (whole .whole-slots .ensures) (well .before .if1 .left) (well .well-table .ensures) (m .if2 .left)
 
 whole-slots-requires : tie.Need-whole-slots-requires
 whole-slots-requires c κs = search needs
@@ -16,8 +21,8 @@ put-refusal-requires c κs = search needs
 
 returns : tie.Need-returns
 returns c =
-    let w = c .before .before .before .whole-slots in
-    listed-102 (now (c .before .before .before .before .before .args .table)) (sym (w .ensures) ∙ not-true (w .result) (c .before .before .if1 .taken)) (c .put-refusal .ensures)
+    let whole = c .before .before .before in
+    listed-102 (now (whole .before .before .args .table)) (whole .whole-slots .ensures) (c .before .before .if1 .taken) (c .put-refusal .ensures)
 
 well-table-requires : tie.Need-well-table-requires
 well-table-requires c κs = search needs
@@ -27,9 +32,9 @@ put-refusal-requires-2 c κs = search needs
 
 returns-2 : tie.Need-returns-2
 returns-2 c =
-    let w = c .before .before .before .before .before .whole-slots in
-    let v = c .before .before .before .well-table in
-    listed-103 (now (c .before .before .before .before .before .before .before .args .table)) (sym (w .ensures) ∙ not-false (w .result) (c .before .before .before .before .if1 .left)) (sym (v .ensures) ∙ not-true (v .result) (c .before .before .if2 .taken)) (c .put-refusal2 .ensures)
+    let well = c .before .before .before in
+    let whole = well .before .before in
+    listed-103 (now (whole .before .before .args .table)) (whole .whole-slots .ensures) (well .before .if1 .left) (well .well-table .ensures) (c .before .before .if2 .taken) (c .put-refusal2 .ensures)
 
 slice-aggregate-put-word : tie.Need-slice-aggregate-put-word
 slice-aggregate-put-word c = search needs
@@ -38,16 +43,12 @@ put-word-requires : tie.Need-put-word-requires
 put-word-requires c κs = search needs
 
 put-lines-requires : tie.Need-put-lines-requires
-put-lines-requires c κs =
-    let w = c .before .before .before .before .before .before .before .whole-slots in
-    let v = c .before .before .before .before .before .well-table in
-    (record { whole = sym (w .ensures) ∙ not-false (w .result) (c .before .before .before .before .before .before .if1 .left); well = sym (v .ensures) ∙ not-false (v .result) (c .before .before .before .before .if2 .left) }, omega arith)
+put-lines-requires c κs = (fits (c .before .before .before .before), omega arith)
 
 returns-3 : tie.Need-returns-3
 returns-3 c =
-    let w = c .before .before .before .before .before .before .before .before .whole-slots in
-    let v = c .before .before .before .before .before .before .well-table in
-    listed-lines (now (c .before .before .before .before .before .before .before .before .before .before .args .table)) (record { whole = sym (w .ensures) ∙ not-false (w .result) (c .before .before .before .before .before .before .before .if1 .left); well = sym (v .ensures) ∙ not-false (v .result) (c .before .before .before .before .before .if2 .left) }) (c .before .before .put-word .ensures) (c .put-lines .ensures)
+    let headed = c .before .before in
+    listed-lines _ (fits (headed .before .before .before)) (headed .put-word .ensures) (c .put-lines .ensures)
 
 pub list-spec : {M : Type 1} → statement M
 list-spec =

@@ -17,17 +17,19 @@ put-sizes-requires : tie.Need-put-sizes-requires
 put-sizes-requires c κs =
     let head = c .before .before .before .before .before in
     let start = head .before .before .before in
-    (omega (arith, head .head-of .ensures .hashes-are), omega (arith, head .head-of .ensures .length-is), omega (arith, label-most (start .args .i) (placeNumber (head .head-of .result .place)) (start .pre .0)))
+    let h = head .head-of in
+    (omega (arith, h .ensures .hashes-are), omega (arith, h .ensures .length-is), omega (arith, label-most (start .args .i) (placeNumber (h .result .place)) (start .pre .0)))
 
 same-length : tie.Need-same-length
 same-length c = search needs
 
 returns : tie.Need-returns
 returns c =
-    let label = c .before .before .before .before .before .before in
+    let last = c .before .before in
+    let label = last .before .before .before .before in
     let head = label .before .before in
     let start = head .before .before .before in
-    line-there (start .args .i) (now (start .args .slot)) (head .head-of .result) (head .head-of .ensures) (label .put-label .ensures) (c .before .before .put-sizes .ensures)
+    line-there (start .args .i) (now (start .args .slot)) (head .head-of .result) (head .head-of .ensures) (label .put-label .ensures) (last .put-sizes .ensures)
 
 pub put-line-spec : {M : Type 1} → statement M
 put-line-spec =

@@ -4,7 +4,7 @@ use Prim.Native.Nat.{_≤_, _-_}
 use native.Mathlib.Omega.{arith}
 use borrow.Author.Needs.{needs}
 use Rattle.listing.proofs.Writing.{wrote-length}
-use Rattle.listing.proofs.SlotLines.{Passed, passed-none, passed-all, index-15, room-next, few-next, short-next, pass-next}
+use Rattle.listing.proofs.SlotLines.{Passed, passed-none, passed-all, line-asks, pass-next}
 use Rattle.listing.proofs.lines.put_lines.Statement.{statement}
 use Rattle.listing.proofs.lines.put_lines.Tie as tie
 
@@ -26,16 +26,11 @@ put-line-requires : tie.Need-put-line-requires Inv-loop μ-loop
 put-line-requires c κs =
     let l = c .before .before .before in
     let start = l .before .before .before in
-    let t = now (start .args .table) in
-    let b = now (start .args .out) in
-    let below = c .before .before .loop-test .taken in
-    let s = c .slot-at in (
-      omega (arith, index-15 t b (start .args .at) (start .pre .0) (start .pre .1) (l .loop .i) (l .loop .next) (l .loop .out) below (l .loop .inv .1)),
-      s .ensures .1,
-      few-next t b (start .args .at) (start .pre .0) (start .pre .1) (l .loop .i) (l .loop .next) (l .loop .out) below (l .loop .inv .1) (now (s .result)) (s .ensures .0),
-      short-next t b (start .args .at) (start .pre .0) (start .pre .1) (l .loop .i) (l .loop .next) (l .loop .out) below (l .loop .inv .1) (now (s .result)) (s .ensures .0),
-      room-next t b (start .args .at) (start .pre .0) (start .pre .1) (l .loop .i) (l .loop .next) (l .loop .out) below (l .loop .inv .1),
-    )
+    let s = c .slot-at in
+    let asks =
+    line-asks (now (start .args .table)) (now (start .args .out)) (start .args .at) (start .pre .0) (start .pre .1) (l .loop .i) (l .loop .next) (l .loop .out)
+    (c .before .before .loop-test .taken) (l .loop .inv .1) (now (s .result)) (s .ensures .0) in
+    (omega arith, s .ensures .1, asks .1, asks .2, asks .3)
 
 add-i : tie.Need-add-i Inv-loop μ-loop
 add-i c = search needs
@@ -45,11 +40,15 @@ loop-less c = search needs
 
 loop-again : tie.Need-loop-again Inv-loop μ-loop
 loop-again c =
-    let l = c .before .before .before .before .before .before in
-    let start = l .before .before .before in
-    let s = c .before .before .before .slot-at in
-    let put = c .before .before .put-line in
-    (omega arith, pass-next (now (start .args .table)) (now (start .args .out)) (start .args .at) (start .pre .0) (start .pre .1) (l .loop .i) (l .loop .next) (l .loop .out) (c .before .before .before .before .before .loop-test .taken) (l .loop .inv .1) (now (s .result)) (s .ensures .0) (put .last .0) (put .result) (put .ensures))
+    let put = c .before .before in
+    let s = put .before .slot-at in
+    let below = put .before .before .before in
+    let l = below .before in
+    let start = l .before .before .before in (
+      omega arith,
+      pass-next (now (start .args .table)) (now (start .args .out)) (start .args .at) (start .pre .0) (start .pre .1) (l .loop .i) (l .loop .next) (l .loop .out)
+          (below .loop-test .taken) (l .loop .inv .1) (now (s .result)) (s .ensures .0) (put .put-line .last .0) (put .put-line .result) (put .put-line .ensures),
+    )
 
 same-length : tie.Need-same-length Inv-loop μ-loop
 same-length c = wrote-length (c .before .loop .inv .1 .wrote)

@@ -1,4 +1,4 @@
--- `listing::put::put_field` meets its contract: a space, and the number behind it. Assumes nothing.
+-- `listing::put::put_field` meets its contract: a space, and the number after it. Assumes nothing.
 use native.Mathlib.Omega.{arith}
 use Rattle.listing.proofs.Writing.{field-there, field-length}
 use borrow.Author.Needs.{needs}
@@ -15,8 +15,9 @@ put-word-requires c κs =
 
 put-number-requires : tie.Need-put-number-requires
 put-number-requires c κs =
-    let w = c .before .before .before .put-word in
-    let start = c .before .before .before .before .before .before .before in
+    let spaced = c .before .before .before in
+    let start = spaced .before .before .before .before in
+    let w = spaced .put-word in
     (start .pre .0, omega (arith, start .pre .1, field-length (start .args .n), w .ensures .ends, w .kept .0))
 
 same-length : tie.Need-same-length
@@ -24,9 +25,11 @@ same-length c = search needs
 
 returns : tie.Need-returns
 returns c =
-    let w = c .before .before .before .before .before .before .put-word in
-    let start = c .before .before .before .before .before .before .before .before .before .before in
-    field-there (start .args .n) (w .ensures) (c .before .before .put-number .ensures)
+    let last = c .before .before in
+    let spaced = last .before .before .before .before in
+    let start = spaced .before .before .before .before in
+    let w = spaced .put-word in
+    field-there (start .args .n) (w .ensures) (last .put-number .ensures)
 
 pub put-field-spec : {M : Type 1} → statement M
 put-field-spec =

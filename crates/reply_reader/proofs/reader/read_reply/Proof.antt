@@ -1,4 +1,4 @@
--- `reply_reader::reader::read_reply` meets its contract: what is told means what document 01 says. Assumes nothing.
+-- `reply_reader::reader::read_reply` meets its contract: what is told means what the profile says. Assumes nothing.
 use denote.Ref.{now}
 use Rattle.reply_reader.proofs.Meanings.{reads}
 use borrow.Author.Needs.{needs}

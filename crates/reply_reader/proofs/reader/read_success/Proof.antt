@@ -63,12 +63,7 @@ returns-9 : tie.Need-returns-9
 returns-9 c = of-kind 9 (now (c .before .before .before .args .f)) (c .before .match .keys9) (c .read-info .ensures)
 
 returns-10 : tie.Need-returns-10
-returns-10 c =
-    let a = c .before .before .before .args in
-    let r = c .before .match .rest in
-    no-kind (a .kind)
-    (r .0 .0 .0 .0 .0 .0 .0 .0 .1) (r .0 .0 .0 .0 .0 .0 .0 .1) (r .0 .0 .0 .0 .0 .0 .1) (r .0 .0 .0 .0 .0 .1) (r .0 .0 .0 .0 .1) (r .0 .0 .0 .1) (r .0 .0 .1) (r .0 .1) (r .1)
-    (now (a .f)) (c .malformed .ensures)
+returns-10 c = rw (no-kind _ (c .before .match .rest)) (c .malformed .ensures)
 
 pub read-success-spec : {M : Type 1} → statement M
 read-success-spec =

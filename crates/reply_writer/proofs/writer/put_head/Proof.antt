@@ -21,8 +21,11 @@ same-length c = search needs
 
 returns : tie.Need-returns
 returns c =
-    let d = now (c .before .before .before .before .before .before .before .args .reply) in
-    c .before .before .put-bytes .ensures ∙ ap (λ (x : Bytes). overAt 0 x d) (c .before .before .before .before .before .frame-start .ensures)
+    let put = c .before .before in
+    let made = put .before .before .before in
+    let start = made .before .before in
+    let d = now (start .args .reply) in
+    put .put-bytes .ensures ∙ ap (λ (x : Bytes). overAt 0 x d) (made .frame-start .ensures)
 
 pub put-head-spec : {M : Type 1} → statement M
 put-head-spec =

@@ -16,9 +16,11 @@ same-length c = search needs
 
 returns : tie.Need-returns
 returns c =
-    let start = c .before .before .before .before .before .before .before .before .before .before in
+    let keyed = c .before .before in
+    let headed = keyed .before .before .before .before in
+    let start = headed .before .before .before .before in
     let a = start .args in
-    key-steps (now (a .slot)) (now (a .reply)) (start .pre .1) (c .before .before .before .before .before .before .put-head .ensures) (c .before .before .put-key .ensures) (start .pre .0)
+    key-steps (now (a .slot)) (now (a .reply)) (start .pre .1) (headed .put-head .ensures) (keyed .put-key .ensures) (start .pre .0)
 
 pub reply-key-spec : {M : Type 1} → statement M
 reply-key-spec = tie.close (tie.spec put-head-requires put-key-requires same-length returns)

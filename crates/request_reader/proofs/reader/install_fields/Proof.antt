@@ -32,7 +32,10 @@ refuse-requires-2 c κs = search needs
 
 returns-2 : tie.Need-returns-2
 unfolding ofInstall
-returns-2 c = search (tests, ← c .before .before .hash-count-rest .ensures, ← c .before .before .before .before .before .wide .ensures, ← c .before .before .before .before .before .before .hash-count-of .ensures)
+returns-2 c =
+    let rest = c .before .before in
+    let counted = rest .before .before .before in
+    search (tests, ← rest .hash-count-rest .ensures, ← counted .wide .ensures, ← counted .before .hash-count-of .ensures)
 
 mul-start : tie.Need-mul-start
 mul-start c = search needs
@@ -45,7 +48,10 @@ refuse-requires-3 c κs = search needs
 
 returns-3 : tie.Need-returns-3
 unfolding ofInstall
-returns-3 c = search (tests, left-none, left-some, ← c .before .before .before .hash-count-rest .ensures, ← c .before .before .before .before .before .before .wide .ensures, ← c .before .before .before .before .before .before .before .hash-count-of .ensures)
+returns-3 c =
+    let rest = c .before .before .before in
+    let counted = rest .before .before .before in
+    search (tests, left-none, left-some, ← rest .hash-count-rest .ensures, ← counted .wide .ensures, ← counted .before .hash-count-of .ensures)
 
 sub-payload : tie.Need-sub-payload
 sub-payload c = search needs
@@ -55,14 +61,20 @@ refuse-requires-4 c κs = search needs
 
 returns-4 : tie.Need-returns-4
 unfolding ofInstall
-returns-4 c = search (tests, left-none, left-some, ← c .before .before .before .before .hash-count-rest .ensures, ← c .before .before .before .before .before .before .before .wide .ensures, ← c .before .before .before .before .before .before .before .before .hash-count-of .ensures)
+returns-4 c =
+    let rest = c .before .before .before .before in
+    let counted = rest .before .before .before in
+    search (tests, left-none, left-some, ← rest .hash-count-rest .ensures, ← counted .wide .ensures, ← counted .before .hash-count-of .ensures)
 
 with-right-requires : tie.Need-with-right-requires
 with-right-requires c κs = search needs
 
 returns-5 : tie.Need-returns-5
 unfolding ofInstall
-returns-5 c = search (tests, left-none, left-some, ← c .before .before .before .before .hash-count-rest .ensures, ← c .before .before .before .before .before .before .before .wide .ensures, ← c .before .before .before .before .before .before .before .before .hash-count-of .ensures)
+returns-5 c =
+    let rest = c .before .before .before .before in
+    let counted = rest .before .before .before in
+    search (tests, left-none, left-some, ← rest .hash-count-rest .ensures, ← counted .wide .ensures, ← counted .before .hash-count-of .ensures)
 
 pub install-fields-spec : {M : Type 1} → statement M
 install-fields-spec =

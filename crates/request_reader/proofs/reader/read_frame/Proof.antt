@@ -39,7 +39,10 @@ refuse-requires-3 c κs = search needs
 
 returns-3 : tie.Need-returns-3
 unfolding asked
-returns-3 c = search (tests, ← c .before .before .frame-version .ensures, ← c .before .before .before .before .before .wide-word .ensures, ← c .before .before .before .before .before .before .word-at .ensures)
+returns-3 c =
+    let version = c .before .before in
+    let long = version .before .before .before in
+    search (tests, ← version .frame-version .ensures, ← long .wide-word .ensures, ← long .before .word-at .ensures)
 
 shared-slice-read-flag-rest : tie.Need-shared-slice-read-flag-rest
 shared-slice-read-flag-rest c = search needs
@@ -52,7 +55,11 @@ refuse-requires-4 c κs = search needs
 
 returns-4 : tie.Need-returns-4
 unfolding asked
-returns-4 c = search (tests, ← c .before .before .flag-rest .ensures, ← c .before .before .before .before .before .frame-version .ensures, ← c .before .before .before .before .before .before .before .before .wide-word .ensures, ← c .before .before .before .before .before .before .before .before .before .word-at .ensures)
+returns-4 c =
+    let rest = c .before .before in
+    let version = rest .before .before .before in
+    let long = version .before .before .before in
+    search (tests, ← rest .flag-rest .ensures, ← version .frame-version .ensures, ← long .wide-word .ensures, ← long .before .word-at .ensures)
 
 shared-slice-read-frame-kind : tie.Need-shared-slice-read-frame-kind
 shared-slice-read-frame-kind c = search needs
@@ -71,7 +78,14 @@ read-kind-requires c κs = search needs
 
 returns-5 : tie.Need-returns-5
 unfolding asked
-returns-5 c = search (tests, ← c .before .flag-of .ensures, ← c .before .before .before .frame-kind .ensures, ← c .before .before .before .before .before .before .flag-rest .ensures, ← c .before .before .before .before .before .before .before .before .before .frame-version .ensures, ← c .before .before .before .before .before .before .before .before .before .before .before .before .wide-word .ensures, ← c .before .before .before .before .before .before .before .before .before .before .before .before .before .word-at .ensures)
+returns-5 c =
+    let flagged = c .before in
+    let told = flagged .before .before in
+    let rest = told .before .before .before in
+    let version = rest .before .before .before in
+    let long = version .before .before .before in
+    search
+    (tests, ← flagged .flag-of .ensures, ← told .frame-kind .ensures, ← rest .flag-rest .ensures, ← version .frame-version .ensures, ← long .wide-word .ensures, ← long .before .word-at .ensures)
 
 pub read-frame-spec : {M : Type 1} → statement M
 read-frame-spec =

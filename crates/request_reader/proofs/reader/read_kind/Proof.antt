@@ -73,7 +73,7 @@ returns-9 c = search (tests, c .before .match .keys9)
 
 returns-10 : tie.Need-returns-10
 unfolding ofKind
-returns-10 c = rw (no-kind (c .before .before .before .args .kind) (c .before .match .rest)) (c .refuse .ensures)
+returns-10 c = rw (no-kind _ (c .before .match .rest)) (c .refuse .ensures)
 
 pub read-kind-spec : {M : Type 1} → statement M
 read-kind-spec =

@@ -10,29 +10,15 @@ refuse-requires c κs = search needs
 returns : tie.Need-returns
 returns c = search tests
 
-refuse-requires-2 : tie.Need-refuse-requires-2
-refuse-requires-2 c κs = search needs
-
-returns-2 : tie.Need-returns-2
-returns-2 c = search tests
-
 word-at-requires : tie.Need-word-at-requires
 word-at-requires c κs = search needs
 
-with-handle-requires : tie.Need-with-handle-requires
-with-handle-requires c κs = search needs
+read-one-requires : tie.Need-read-one-requires
+read-one-requires c κs = search needs
 
-returns-3 : tie.Need-returns-3
-returns-3 c = search (tests, ← c .before .word-at .ensures)
+returns-2 : tie.Need-returns-2
+returns-2 c = rw (← c .before .word-at .ensures) (c .read-one .ensures)
 
 pub read-setup-spec : {M : Type 1} → statement M
 read-setup-spec =
-    tie.close
-    (tie.spec
-    refuse-requires
-    returns
-    refuse-requires-2
-    returns-2
-    word-at-requires
-    with-handle-requires
-    returns-3)
+    tie.close (tie.spec refuse-requires returns word-at-requires read-one-requires returns-2)

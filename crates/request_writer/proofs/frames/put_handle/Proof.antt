@@ -1,12 +1,11 @@
--- `request_writer::frames::put_handle` meets its contract: the handle stands behind the head. Assumes nothing.
-use mathlib.Core.Path.{_≡_, refl, ap, _∙_}
-use mathlib.Core.List.{[]}
+-- `request_writer::frames::put_handle` meets its contract: the handle stands after the head. Assumes nothing.
+use mathlib.Core.Path.{_≡_}
+use Prim.Native.Nat.{_+_, _≤_}
 use native.Mathlib.Omega.{arith}
 use lib.ListN.{length}
 use denote.Ref.{now}
-use Rattle.request_writer.proofs.FrameParts.{part-more}
-use Rattle.profile.specs.Bytes.{Bytes}
-use Rattle.buffers.specs.Over.{overAt}
+use Rattle.profile.specs.Sizes.{handleSize}
+use Rattle.request_writer.proofs.FrameParts.{head-then}
 use borrow.Author.Needs.{needs}
 use Rattle.request_writer.proofs.frames.put_handle.Statement.{statement}
 use Rattle.request_writer.proofs.frames.put_handle.Tie as tie
@@ -29,13 +28,19 @@ put-bytes-requires-2 c κs = search needs
 same-length : tie.Need-same-length
 same-length c = search needs
 
+room : (s : tie.Start) → 4 + length (s .args .t4) ≤ length (now (s .args .out))
+room s =
+    let h : length (s .args .t4) ≡ handleSize = search needs in
+    omega arith
+
 returns : tie.Need-returns
 returns c =
-    let a = c .before .before .before .before .before .before .before .before .before .before .before .before .args in
-    let h : length (a .t4) ≡ 10 = search needs in
-    c .before .before .put-bytes2 .ensures
-    ∙ ap (overAt 4 (a .t4)) (c .before .before .before .before .before .before .before .put-bytes .ensures ∙ ap (λ (x : Bytes). overAt 0 x (now (a .out))) (c .before .before .before .before .before .before .before .before .before .before .request-head .ensures))
-    ∙ part-more (a .kind) (a .n) [] (a .t4) (now (a .out)) 4 refl (omega arith)
+    let last = c .before .before in
+    let headed = last .before .before .before .before .before in
+    let made = headed .before .before .before in
+    let start = made .before .before in
+    let a = start .args in
+    head-then (a .kind) (a .n) (a .t4) (now (a .out)) (room start) (made .request-head .ensures) (headed .put-bytes .ensures) (last .put-bytes2 .ensures)
 
 pub put-handle-spec : {M : Type 1} → statement M
 put-handle-spec =

@@ -1,12 +1,9 @@
--- `request_writer::frames::put_right` meets its contract: part behind part. Assumes nothing.
-use mathlib.Core.Path.{_≡_, ap, _∙_}
-use mathlib.Core.List.{[], _∷_, _++_}
-use native.Mathlib.Omega.{arith}
-use lib.ListN.{length, length-append}
+-- `request_writer::frames::put_right` meets its contract: part after part. Assumes nothing.
+use mathlib.Core.Path.{_≡_}
+use lib.ListN.{length}
 use denote.Ref.{now}
-use Rattle.request_writer.proofs.FrameParts.{then-part}
-use Rattle.buffers.specs.Over.{overAt}
-use Rattle.profile.specs.Bytes.{Bytes, word-bytes}
+use Rattle.profile.specs.Sizes.{handleSize, keySize}
+use Rattle.request_writer.proofs.FrameParts.{front-written}
 use borrow.Author.Needs.{needs}
 use Rattle.request_writer.proofs.frames.put_right.Statement.{statement}
 use Rattle.request_writer.proofs.frames.put_right.Tie as tie
@@ -32,19 +29,19 @@ put-bytes-requires-2 c κs = search needs
 same-length : tie.Need-same-length
 same-length c = search needs
 
+sized : (s : tie.Start) → (length (s .args .handle) ≡ handleSize) × (length (s .args .t4) ≡ keySize)
+sized s = (search needs, search needs)
+
 returns : tie.Need-returns
 returns c =
-    let a = c .before .before .before .before .before .before .before .before .before .before .before .before .before .before .before .before .args in
-    let h : length (a .handle) ≡ 10 = search needs in
-    let k : length (a .t4) ≡ 16 = search needs in
-    let three : Bytes = word-bytes (a .count) ++ (a .n ∷ []) in
-    let y₁ = c .before .before .before .before .before .before .before .before .before .before .before .before .before .put-handle .last .0 in
-    let y₂ = c .before .before .before .before .before .before .before .before .put-bytes .last .0 in
-    let y₃ = c .before .before .put-bytes2 .last .0 in
-    let e₃ : y₃ ≡ overAt 30 three y₂ = c .before .before .put-bytes2 .ensures ∙ ap (λ (x : Bytes). overAt 30 x y₂) (c .before .before .before .before .before .counted .ensures) in
-    then-part 2 (a .size) (a .handle ++ a .t4) three (now (a .out)) y₂ y₃ 30 (rw length-append (omega arith)) (omega arith)
-    (then-part 2 (a .size) (a .handle) (a .t4) (now (a .out)) y₁ y₂ 14 (omega arith) (omega arith) (c .before .before .before .before .before .before .before .before .before .before .before .before .before .put-handle .ensures) (c .before .before .before .before .before .before .before .before .put-bytes .ensures))
-    e₃
+    let last = c .before .before in
+    let made = last .before .before .before in
+    let keyed = made .before .before .before in
+    let put = keyed .before .before .before .before .before in
+    let start = put .before .before .before in
+    let a = start .args in
+    front-written (a .size) (a .handle) (a .t4) (a .count) (a .n) (now (a .out)) (sized start .0) (sized start .1) (start .pre)
+    (put .put-handle .ensures) (keyed .put-bytes .ensures) (made .counted .ensures) (last .put-bytes2 .ensures)
 
 pub put-right-spec : {M : Type 1} → statement M
 put-right-spec =

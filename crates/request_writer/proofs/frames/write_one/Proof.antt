@@ -19,8 +19,9 @@ same-length c = search needs
 
 returns-2 : tie.Need-returns-2
 returns-2 c =
-    let a = c .before .before .before .before .before .before .args in
-    frame-whole (a .kind) (a .handle) (now (a .out)) (c .before .before .put-handle .last .0) 10 (search needs) (omega arith) (c .before .before .put-handle .ensures)
+    let put = c .before .before in
+    let a = put .before .before .before .before .args in
+    frame-whole (a .kind) (a .handle) (now (a .out)) 10 (search needs) (omega arith) (put .put-handle .ensures)
 
 pub write-one-spec : {M : Type 1} → statement M
 write-one-spec = tie.close (tie.spec returns put-handle-requires same-length returns-2)

@@ -1,11 +1,9 @@
--- `request_writer::frames::write_word` meets its contract: part behind part. Assumes nothing.
-use mathlib.Core.Path.{_≡_}
-use mathlib.Core.List.{_++_}
+-- `request_writer::frames::write_word` meets its contract: part after part. Assumes nothing.
 use native.Mathlib.Omega.{arith}
-use lib.ListN.{length, length-append}
+use mathlib.Core.Path.{refl}
 use denote.Ref.{now}
-use Rattle.request_writer.proofs.FrameParts.{then-part, frame-short, frame-whole}
 use Rattle.profile.specs.Bytes.{word-bytes}
+use Rattle.request_writer.proofs.FrameParts.{two-short, two-whole}
 use borrow.Author.Needs.{needs}
 use Rattle.request_writer.proofs.frames.write_word.Statement.{statement}
 use Rattle.request_writer.proofs.frames.write_word.Tie as tie
@@ -13,8 +11,7 @@ use Rattle.request_writer.proofs.frames.write_word.Tie as tie
 returns : tie.Need-returns
 returns c =
     let a = c .before .before .args in
-    let h : length (a .handle) ≡ 10 = search needs in
-    frame-short (a .kind) (a .handle ++ word-bytes (a .word)) (now (a .out)) 12 (rw length-append (omega arith)) (omega arith)
+    two-short (a .kind) (a .handle) (word-bytes (a .word)) (now (a .out)) 2 (search needs) refl (omega arith)
 
 put-handle-requires : tie.Need-put-handle-requires
 put-handle-requires c κs = search needs
@@ -27,9 +24,10 @@ same-length c = search needs
 
 returns-2 : tie.Need-returns-2
 returns-2 c =
-    let a = c .before .before .before .before .before .before .before .before .before .before .args in
-    let h : length (a .handle) ≡ 10 = search needs in
-    frame-whole (a .kind) (a .handle ++ word-bytes (a .word)) (now (a .out)) (c .before .before .put-word .last .0) 12 (rw length-append (omega arith)) (omega arith) (then-part (a .kind) 12 (a .handle) (word-bytes (a .word)) (now (a .out)) (c .before .before .before .before .before .before .put-handle .last .0) (c .before .before .put-word .last .0) 14 (omega arith) (omega arith) (c .before .before .before .before .before .before .put-handle .ensures) (c .before .before .put-word .ensures))
+    let last = c .before .before in
+    let put = last .before .before .before .before in
+    let a = put .before .before .before .before .args in
+    two-whole (a .kind) (a .handle) (word-bytes (a .word)) (now (a .out)) 2 (search needs) refl (omega arith) (put .put-handle .ensures) (last .put-word .ensures)
 
 pub write-word-spec : {M : Type 1} → statement M
 write-word-spec =

@@ -1,32 +1,50 @@
 -- `request_writer::writer::write_kind` meets its contract, kind by kind. Assumes nothing.
-use mathlib.Core.Path.{ap, _∙_, refl}
+use mathlib.Core.Path.{_≡_, refl, ap}
+use mathlib.Core.Option.{some}
+use Prim.Native.Nat.{_/_, _%_, _≤_}
 use native.Mathlib.Omega.{arith}
+use lib.ListN.{length}
 use denote.Ref.{now}
-use Rattle.profile.specs.Bytes.{Bytes}
-use Rattle.profile.specs.Frame.{Setup, Install, Retrieve, Rek, Enable, Remove, Cancel, List', Info, kindOf}
-use Rattle.profile.specs.Request.{writeRequest}
-use Rattle.profile.specs.Device.{wholeHashes, put}
-use Rattle.request_writer.specs.Writing.{fieldsOf, kindAllows, wrote}
+use Rattle.profile.specs.Sizes.{hashSize, mostHashes}
+use Rattle.profile.specs.Frame.{Kind, Setup, Install, Retrieve, Rek, Enable, Remove, Cancel, List', Info, kindOf, frame}
+use Rattle.profile.specs.Request.{Request, numberOf, secondByte, writeBody, writeRequest}
+use Rattle.profile.specs.Device.{Fields, wholeHashes, requestOf, Written, put, writeKind}
+use Rattle.request_writer.specs.Writing.{fieldsOf, kindAllows}
 use Rattle.request_reader.proofs.Choices.{no-kind}
-use Rattle.request_writer.proofs.Allowed.{hashes-few, payload-short, right-frame, list-frame, kind-writes}
+use Rattle.request_writer.proofs.Allowed.{hashes-few, payload-short, right-put, list-put, kind-writes}
 use borrow.Author.Needs.{needs}
 use Rattle.request_writer.proofs.writer.write_kind.Statement.{statement}
 use Rattle.request_writer.proofs.writer.write_kind.Tie as tie
 
+-- ---- what every arm knows: the fields, few hashes, and the outcome of a kind whose fields are allowed
+abbrev start : tie.After-new → tie.Start
+start m = m .before .before .before .before .before
+
+abbrev given : tie.Start → Fields
+given s = fieldsOf (s .args .p) (now (s .args .hashes)) (now (s .args .payload))
+
+few : (s : tie.Start) → (length (now (s .args .hashes)) % hashSize ≡ 0) × (length (now (s .args .hashes)) / hashSize ≤ mostHashes)
+few s = hashes-few (now (s .args .hashes)) (kindAllows (kindOf (s .args .kind)) (given s)) (s .pre)
+
+module _ (m : tie.After-new) (k : Kind) where
+  abbrev q : Request
+  q = requestOf k (given (start m))
+
+  writes : {o : Written} → kindOf (start m .args .kind) ≡ some k → o ≡ put (frame (numberOf q) (secondByte q) (writeBody q)) (now (start m .args .out))
+      → o ≡ writeKind (kindOf (start m .args .kind)) (given (start m)) (now (start m .args .out))
+  unfolding writeRequest
+  writes e p = kind-writes k (given (start m)) (start m .args .kind) (now (start m .args .out)) e (start m .pre) p
+
 cast-n : tie.Need-cast-n
-cast-n c =
-    let a = c .before .before .before .before .before .args in
-    let f = fieldsOf (a .p) (now (a .hashes)) (now (a .payload)) in
-    omega (arith, hashes-few (now (a .hashes)) (kindAllows (kindOf (a .kind)) f) (c .before .before .before .before .before .pre))
+cast-n c = omega (arith, few (start c))
 
 write-word-requires : tie.Need-write-word-requires
 write-word-requires c κs = search needs
 
 write-right-requires : tie.Need-write-right-requires
 write-right-requires c κs =
-    let a = c .before .before .before .before .before .before .before .args in
-    let f = fieldsOf (a .p) (now (a .hashes)) (now (a .payload)) in
-    omega (arith, hashes-few (now (a .hashes)) (kindAllows (kindOf (a .kind)) f) (c .before .before .before .before .before .before .before .pre), payload-short f (wholeHashes (now (a .hashes))) (a .kind) (c .before .match .keys2) (c .before .before .before .before .before .before .before .pre))
+    let s = start (c .before .before) in
+    omega (arith, few s, payload-short (given s) (wholeHashes (now (s .args .hashes))) (s .args .kind) (c .before .match .keys2) (s .pre))
 
 write-two-requires : tie.Need-write-two-requires
 write-two-requires c κs = search needs
@@ -44,10 +62,7 @@ write-one-requires-2 : tie.Need-write-one-requires-2
 write-one-requires-2 c κs = search needs
 
 write-hashes-requires : tie.Need-write-hashes-requires
-write-hashes-requires c κs =
-    let a = c .before .before .before .before .before .before .before .args in
-    let f = fieldsOf (a .p) (now (a .hashes)) (now (a .payload)) in
-    omega (arith, hashes-few (now (a .hashes)) (kindAllows (kindOf (a .kind)) f) (c .before .before .before .before .before .before .before .pre))
+write-hashes-requires c κs = omega (arith, few (start (c .before .before)))
 
 write-one-requires-3 : tie.Need-write-one-requires-3
 write-one-requires-3 c κs = search needs
@@ -56,106 +71,89 @@ same-length : tie.Need-same-length
 same-length c = search needs
 
 returns : tie.Need-returns
-unfolding writeRequest
 returns c =
-    let a = c .before .before .before .before .before .before .before .before .before .before .args in
-    let f = fieldsOf (a .p) (now (a .hashes)) (now (a .payload)) in
-    kind-writes Setup f (a .kind) (now (a .out)) (wrote (c .before .before .write-word .result) (c .before .before .write-word .last .0))
-    (ap kindOf (c .before .before .before .before .match .keys1)) (c .before .before .before .before .before .before .before .before .before .before .pre) (c .before .before .write-word .ensures)
+    let done = c .before .before in
+    let arm = done .before .before in
+    writes (arm .before) Setup (ap kindOf (arm .match .keys1)) (done .write-word .ensures)
 
 same-length-2 : tie.Need-same-length-2
 same-length-2 c = search needs
 
 returns-2 : tie.Need-returns-2
-unfolding writeRequest
 returns-2 c =
-    let a = c .before .before .before .before .before .before .before .before .before .before .args in
-    let f = fieldsOf (a .p) (now (a .hashes)) (now (a .payload)) in
-    kind-writes Install f (a .kind) (now (a .out)) (wrote (c .before .before .write-right .result) (c .before .before .write-right .last .0))
-    (ap kindOf (c .before .before .before .before .match .keys2)) (c .before .before .before .before .before .before .before .before .before .before .pre)
-    (c .before .before .write-right .ensures ∙ ap (λ (s : Bytes). put s (now (a .out))) (right-frame (a .p) (now (a .hashes)) (now (a .payload)) (hashes-few (now (a .hashes)) (kindAllows (kindOf (a .kind)) f) (c .before .before .before .before .before .before .before .before .before .before .pre) .0)))
+    let done = c .before .before in
+    let arm = done .before .before in
+    let s = start (arm .before) in
+    let a = s .args in
+    writes (arm .before) Install (ap kindOf (arm .match .keys2)) (right-put (a .p) (now (a .hashes)) (now (a .payload)) (now (a .out)) (few s .0) (done .write-right .ensures))
 
 same-length-3 : tie.Need-same-length-3
 same-length-3 c = search needs
 
 returns-3 : tie.Need-returns-3
-unfolding writeRequest
 returns-3 c =
-    let a = c .before .before .before .before .before .before .before .before .before .before .args in
-    let f = fieldsOf (a .p) (now (a .hashes)) (now (a .payload)) in
-    kind-writes Retrieve f (a .kind) (now (a .out)) (wrote (c .before .before .write-two .result) (c .before .before .write-two .last .0))
-    (ap kindOf (c .before .before .before .before .match .keys3)) (c .before .before .before .before .before .before .before .before .before .before .pre) (c .before .before .write-two .ensures)
+    let done = c .before .before in
+    let arm = done .before .before in
+    writes (arm .before) Retrieve (ap kindOf (arm .match .keys3)) (done .write-two .ensures)
 
 same-length-4 : tie.Need-same-length-4
 same-length-4 c = search needs
 
 returns-4 : tie.Need-returns-4
-unfolding writeRequest
 returns-4 c =
-    let a = c .before .before .before .before .before .before .before .before .before .before .args in
-    let f = fieldsOf (a .p) (now (a .hashes)) (now (a .payload)) in
-    kind-writes Rek f (a .kind) (now (a .out)) (wrote (c .before .before .write-two2 .result) (c .before .before .write-two2 .last .0))
-    (ap kindOf (c .before .before .before .before .match .keys4)) (c .before .before .before .before .before .before .before .before .before .before .pre) (c .before .before .write-two2 .ensures)
+    let done = c .before .before in
+    let arm = done .before .before in
+    writes (arm .before) Rek (ap kindOf (arm .match .keys4)) (done .write-two2 .ensures)
 
 same-length-5 : tie.Need-same-length-5
 same-length-5 c = search needs
 
 returns-5 : tie.Need-returns-5
-unfolding writeRequest
 returns-5 c =
-    let a = c .before .before .before .before .before .before .before .before .before .before .args in
-    let f = fieldsOf (a .p) (now (a .hashes)) (now (a .payload)) in
-    kind-writes Enable f (a .kind) (now (a .out)) (wrote (c .before .before .write-word2 .result) (c .before .before .write-word2 .last .0))
-    (ap kindOf (c .before .before .before .before .match .keys5)) (c .before .before .before .before .before .before .before .before .before .before .pre) (c .before .before .write-word2 .ensures)
+    let done = c .before .before in
+    let arm = done .before .before in
+    writes (arm .before) Enable (ap kindOf (arm .match .keys5)) (done .write-word2 .ensures)
 
 same-length-6 : tie.Need-same-length-6
 same-length-6 c = search needs
 
 returns-6 : tie.Need-returns-6
-unfolding writeRequest
 returns-6 c =
-    let a = c .before .before .before .before .before .before .before .before .before .before .args in
-    let f = fieldsOf (a .p) (now (a .hashes)) (now (a .payload)) in
-    kind-writes Remove f (a .kind) (now (a .out)) (wrote (c .before .before .write-one .result) (c .before .before .write-one .last .0))
-    (ap kindOf (c .before .before .before .before .match .keys6)) (c .before .before .before .before .before .before .before .before .before .before .pre) (c .before .before .write-one .ensures)
+    let done = c .before .before in
+    let arm = done .before .before in
+    writes (arm .before) Remove (ap kindOf (arm .match .keys6)) (done .write-one .ensures)
 
 same-length-7 : tie.Need-same-length-7
 same-length-7 c = search needs
 
 returns-7 : tie.Need-returns-7
-unfolding writeRequest
 returns-7 c =
-    let a = c .before .before .before .before .before .before .before .before .before .before .args in
-    let f = fieldsOf (a .p) (now (a .hashes)) (now (a .payload)) in
-    kind-writes Cancel f (a .kind) (now (a .out)) (wrote (c .before .before .write-one2 .result) (c .before .before .write-one2 .last .0))
-    (ap kindOf (c .before .before .before .before .match .keys7)) (c .before .before .before .before .before .before .before .before .before .before .pre) (c .before .before .write-one2 .ensures)
+    let done = c .before .before in
+    let arm = done .before .before in
+    writes (arm .before) Cancel (ap kindOf (arm .match .keys7)) (done .write-one2 .ensures)
 
 same-length-8 : tie.Need-same-length-8
 same-length-8 c = search needs
 
 returns-8 : tie.Need-returns-8
-unfolding writeRequest
 returns-8 c =
-    let a = c .before .before .before .before .before .before .before .before .before .before .args in
-    let f = fieldsOf (a .p) (now (a .hashes)) (now (a .payload)) in
-    kind-writes List' f (a .kind) (now (a .out)) (wrote (c .before .before .write-hashes .result) (c .before .before .write-hashes .last .0))
-    (ap kindOf (c .before .before .before .before .match .keys8)) (c .before .before .before .before .before .before .before .before .before .before .pre)
-    (c .before .before .write-hashes .ensures ∙ ap (λ (s : Bytes). put s (now (a .out))) (list-frame (a .p) (now (a .hashes)) (now (a .payload)) (hashes-few (now (a .hashes)) (kindAllows (kindOf (a .kind)) f) (c .before .before .before .before .before .before .before .before .before .before .pre) .0)))
+    let done = c .before .before in
+    let arm = done .before .before in
+    let s = start (arm .before) in
+    let a = s .args in
+    writes (arm .before) List' (ap kindOf (arm .match .keys8)) (list-put (a .p) (now (a .hashes)) (now (a .payload)) (now (a .out)) (few s .0) (done .write-hashes .ensures))
 
 same-length-9 : tie.Need-same-length-9
 same-length-9 c = search needs
 
 returns-9 : tie.Need-returns-9
-unfolding writeRequest
 returns-9 c =
-    let a = c .before .before .before .before .before .before .before .before .before .before .args in
-    let f = fieldsOf (a .p) (now (a .hashes)) (now (a .payload)) in
-    kind-writes Info f (a .kind) (now (a .out)) (wrote (c .before .before .write-one3 .result) (c .before .before .write-one3 .last .0))
-    (ap kindOf (c .before .before .before .before .match .keys9)) (c .before .before .before .before .before .before .before .before .before .before .pre) (c .before .before .write-one3 .ensures)
+    let done = c .before .before in
+    let arm = done .before .before in
+    writes (arm .before) Info (ap kindOf (arm .match .keys9)) (done .write-one3 .ensures)
 
 returns-10 : tie.Need-returns-10
-unfolding writeRequest
-returns-10 c = rw (no-kind (c .before .before .before .before .before .before .args .kind) (c .match .rest)) refl
+returns-10 c = rw (no-kind _ (c .match .rest)) refl
 
 pub write-kind-spec : {M : Type 1} → statement M
 write-kind-spec =

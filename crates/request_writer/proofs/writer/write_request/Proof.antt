@@ -1,10 +1,8 @@
 -- `request_writer::writer::write_request` meets its contract. Assumes nothing.
-use mathlib.Core.Bool.{_&&_}
 use denote.Ref.{now}
-use borrow.Author.Tests.{not-true, not-false}
 use Rattle.profile.specs.Device.{write}
 use Rattle.request_writer.specs.Writing.{fieldsOf}
-use Rattle.request_writer.proofs.Allowed.{fields-refused}
+use Rattle.request_writer.proofs.Allowed.{fields-allowed, fields-refused}
 use borrow.Author.Needs.{needs}
 use Rattle.request_writer.proofs.writer.write_request.Statement.{statement}
 use Rattle.request_writer.proofs.writer.write_request.Tie as tie
@@ -17,10 +15,17 @@ kind-allows-requires c κs = search needs
 
 returns : tie.Need-returns
 returns c =
-    let a = c .before .before .before .before .before .before .args in fields-refused (fieldsOf (a .p) (now (a .hashes)) (now (a .payload))) (a .kind) (now (a .out)) (c .before .before .whole-hashes .result) (c .before .kind-allows .result) (c .before .before .whole-hashes .ensures) (c .before .kind-allows .ensures) (not-true (c .before .before .whole-hashes .result && c .before .kind-allows .result) (c .if1 .taken))
+    let allowed = c .before in
+    let whole = allowed .before in
+    let a = whole .before .before .before .before .args in
+    fields-refused (fieldsOf (a .p) (now (a .hashes)) (now (a .payload))) (a .kind) (whole .whole-hashes .ensures) (allowed .kind-allows .ensures) (now (a .out)) (c .if1 .taken)
 
 write-kind-requires : tie.Need-write-kind-requires
-write-kind-requires c κs = rw (← c .before .before .before .whole-hashes .ensures, ← c .before .before .kind-allows .ensures) (not-false (c .before .before .before .whole-hashes .result && c .before .before .kind-allows .result) (c .before .if1 .left))
+write-kind-requires c κs =
+    let allowed = c .before .before in
+    let whole = allowed .before in
+    let a = whole .before .before .before .before .args in
+    fields-allowed (fieldsOf (a .p) (now (a .hashes)) (now (a .payload))) (a .kind) (whole .whole-hashes .ensures) (allowed .kind-allows .ensures) (c .before .if1 .left)
 
 same-length : tie.Need-same-length
 same-length c = search needs
