@@ -13,7 +13,7 @@ use Rattle.profile.specs.Slot.{Slot}
 use Rattle.profile.specs.Agent.{handles, done, replyFrame}
 use Rattle.profile.proofs.Strings.{length-each}
 use Rattle.buffers.specs.Over.{overAt}
-use Rattle.buffers.proofs.Overlays.{over-start, over-length, over-more}
+use Rattle.buffers.proofs.Overlays.{over-start, over-more}
 use Rattle.reply_writer.specs.Written.{headOf}
 use Rattle.list_replies.specs.Listed.{holding, listStart}
 
@@ -22,10 +22,6 @@ pub joined-snoc : (hs : List Bytes) (h : Bytes) → joined (hs ++ (h ∷ [])) �
 joined-snoc [] h = append-nil h
 joined-snoc (x ∷ hs) h = rw (joined-snoc hs h, append-assoc x (joined hs) h)
 
-pub each-snoc : (k : ℕ) (hs : List Bytes) (h : Bytes) → Each k hs → length h ≡ k → Each k (hs ++ (h ∷ []))
-each-snoc k [] h e f = (f, tt)
-each-snoc k (x ∷ hs) h e f = (e .0, each-snoc k hs h (e .1) f)
-
 pub hold-none : (b : Bytes) → holding [] b ≡ b
 unfolding holding overAt
 hold-none b = rw (append-nil (take 5 b)) (take-append-drop 5 b)
@@ -33,10 +29,6 @@ hold-none b = rw (append-nil (take 5 b)) (take-append-drop 5 b)
 module _ (hs : List Bytes) (n : ℕ) (b : Bytes) (each : Each handleSize hs) (count : length hs ≡ n) (fits : 5 + handleSize * n ≤ length b) where
   size : length (joined hs) ≡ handleSize * n
   size = length-each handleSize hs each ∙ ap (λ (k : ℕ). handleSize * k) count
-
-  pub hold-length : length (holding hs b) ≡ length b
-  unfolding holding
-  hold-length = let s = size in over-length (joined hs) b 5 (omega arith)
 
   -- after `put_handle`
   pub hold-more : {d d' : Bytes} (h : Bytes) → length h ≡ handleSize → 5 + handleSize + handleSize * n ≤ length b → d ≡ holding hs b

@@ -2,14 +2,14 @@
 use Prim.Native.Nat.{ℕ}
 use mathlib.Core.Path.{_≡_, sym, ap, _∙_}
 use Rattle.profile.specs.Bytes.{Bytes}
-use Rattle.profile.specs.Request.{install, list, asks, readRequest}
+use Rattle.profile.specs.Request.{asks, readRequest}
 use Rattle.request_reader.specs.declared.asked.Why.{Why}
 use Rattle.request_reader.specs.declared.asked.Body.{Body}
 use Rattle.request_reader.specs.declared.asked.Body.the-variants.{Install, List}
 use Rattle.request_reader.specs.declared.asked.Ask.{Ask}
 use Rattle.request_reader.specs.declared.asked.Ask.the-variants.{No, Yes}
 use Rattle.request_reader.specs.declared.asked.Asked.{Asked}
-use Rattle.request_reader.specs.Answer.{whyMeans, bodyMeans, askMeans, meaning, hashesIn, rightIn, InstallEnds, ListEnds, Answers}
+use Rattle.request_reader.specs.Answer.{whyMeans, bodyMeans, askMeans, meaning, InstallEnds, ListEnds, Answers}
 
 module _ (f : Bytes) (r : Asked) (a : Answers f r) where
   asks-so : (x : Ask) → r .ask ≡ x → readRequest f ≡ askMeans f x r
@@ -23,15 +23,9 @@ module _ (f : Bytes) (r : Asked) (a : Answers f r) where
   pub says-yes : (b : Body) → r .ask ≡ Yes b → readRequest f ≡ asks (bodyMeans f b r)
   says-yes b e = asks-so (Yes b) e
 
-  -- kinds 2 and 8: the fields that stand in the frame, and where they end
-  pub says-install : (c n at len : ℕ) → r .ask ≡ Yes (Install c n at len) → readRequest f ≡ asks (install (r .handle) (rightIn f (r .key) c n at len))
-  says-install c n at len e = says-yes (Install c n at len) e
-
+  -- kinds 2 and 8: where the fields that stand in the frame end
   pub install-within : (c n at len : ℕ) → r .ask ≡ Yes (Install c n at len) → InstallEnds f n at len
   install-within c n at len e = rw e at (a .ends)
-
-  pub says-list : (limit n at : ℕ) → r .ask ≡ Yes (List limit n at) → readRequest f ≡ asks (list limit (hashesIn f n at))
-  says-list limit n at e = says-yes (List limit n at) e
 
   pub list-within : (limit n at : ℕ) → r .ask ≡ Yes (List limit n at) → ListEnds f n at
   list-within limit n at e = rw e at (a .ends)

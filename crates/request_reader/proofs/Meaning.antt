@@ -189,8 +189,5 @@ agrees f =
     if-alike (Agree f) (not (versionHolds f && zeroBits f)) (λ _. refuses f Parameter) λ _.
     kind-agrees f (not-false (isFrame f) h) (kindOf (kindNumber f))
 
-pub asked-means : (f : Bytes) → meaning f (asked f) ≡ readRequest f
-asked-means f = agrees f .means
-
 pub answers : (f : Bytes) (r : Asked) → r ≡ asked f → Answers f r
 answers f r e = record { exact = e; means = rw e (agrees f .means); ends = rw e (agrees f .ends); sizes = rw e (agrees f .sizes) }
