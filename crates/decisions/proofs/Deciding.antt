@@ -2,7 +2,7 @@
 use Prim.Native.Nat.{ℕ, _*_}
 use mathlib.Core.Path.{_≡_, refl, sym, ap, _∙_}
 use mathlib.Core.List.{List}
-use mathlib.Core.Bool.{Bool, true, false}
+use mathlib.Core.Bool.{Bool, true, false, false≢true}
 use native.Mathlib.Omega.{arith}
 use lib.ListN.{drop}
 use Rattle.profile.specs.Bytes.{Bytes, part, Bytes256}
@@ -25,7 +25,7 @@ use Rattle.changes.proofs.Standing.{taken-place}
 use Rattle.decisions.specs.declared.decision.Takes.{Takes}
 use Rattle.decisions.specs.declared.decision.Decision.{Decision}
 use Rattle.decisions.specs.declared.decision.Decision.the-variants.{Refuse, Change}
-use Rattle.decisions.specs.Decisions.{takesPlace, decided, unlessUsed}
+use Rattle.decisions.specs.Decisions.{takesPlace, awaited, lendable, decided, unlessUsed}
 use Rattle.decisions.specs.Serving.{Ready}
 use Rattle.decisions.proofs.Answers.{Denied}
 
@@ -59,9 +59,9 @@ abbrev pub Expects : Takes → (ℕ → Entry → Answer) → Type 0
 Expects w f = (i : ℕ) (e : Entry) → takesPlace w (placeOfEntry e) ≡ false → f i e ≡ deny unexpected
 
 module _ (h : Bytes) (u : List Slot) (w : Takes) (f : ℕ → Entry → Answer) where
-  pub refuses : (n : ℕ) → Expects w f → decided w (lookUp h u) ≡ Refuse n → Denied n (onRecord u h f)
+  pub refuses : Expects w f → (d : Decision) → d ≡ decided w (lookUp h u) → (n : ℕ) → d ≡ Refuse n → Denied n (onRecord u h f)
   unfolding decided
-  refuses n x d = go (lookUp h u) refl d
+  refuses x d e n q = go (lookUp h u) refl (sym e ∙ q)
     where
       placed : (i : ℕ) (p : Place) (b : Bool) → lookUp h u ≡ At i p → takesPlace w p ≡ b → decided w (At i p) ≡ Refuse n → Denied n (onRecord u h f)
       placed i p true l t q = absurd (change-refuse (rw t at q))
@@ -134,6 +134,30 @@ module _ (T B h : Bytes) (bytes : Bytes256 T) (r : Ready T B) (i : ℕ) where
 pub has-slot : (T B h : Bytes) (r : Ready T B) (w : Takes) (d : Decision) → d ≡ decided w (lookUp h (slotsOf T)) → (i : ℕ) (o : Place) → d ≡ Change i o → Has T i
 has-slot T B h r w d e i o q =
     record { whole = r .whole; well = r .well; inside = record-at T h i o (stands h (slotsOf T) w i o (sym e ∙ q) .0) .below }
+
+-- ---- the places that a request takes, where there is one only
+only-reserved : (p : Place) → takesPlace awaited p ≡ true → p ≡ Reserved
+only-reserved Empty q = absurd (false≢true q)
+only-reserved Reserved q = refl
+only-reserved Enabled q = absurd (false≢true q)
+only-reserved Disabled q = absurd (false≢true q)
+
+only-enabled : (p : Place) → takesPlace lendable p ≡ true → p ≡ Enabled
+only-enabled Empty q = absurd (false≢true q)
+only-enabled Reserved q = absurd (false≢true q)
+only-enabled Enabled q = refl
+only-enabled Disabled q = absurd (false≢true q)
+
+-- ---- not refused: the record in slot i, at a place that the request takes
+module _ (T B h : Bytes) (bytes : Bytes256 T) (r : Ready T B) (d : Decision) where
+  pub chosen : (w : Takes) → d ≡ decided w (lookUp h (slotsOf T)) → (i : ℕ) (o : Place) → d ≡ Change i o → Held T h i o × (takesPlace w o ≡ true)
+  chosen w e i o q = let s = stands h (slotsOf T) w i o (sym e ∙ q) in (held T B h bytes r i o (s .0), s .1)
+
+  pub chosen-reserved : d ≡ decided awaited (lookUp h (slotsOf T)) → (i : ℕ) (o : Place) → d ≡ Change i o → Held T h i Reserved
+  chosen-reserved e i o q = let s = chosen awaited e i o q in rw (only-reserved o (s .1)) at (s .0)
+
+  pub chosen-enabled : d ≡ decided lendable (lookUp h (slotsOf T)) → (i : ℕ) (o : Place) → d ≡ Change i o → Held T h i Enabled
+  chosen-enabled e i o q = let s = chosen lendable e i o q in rw (only-enabled o (s .1)) at (s .0)
 
 -- what is known of a slot's bytes is known of those lent
 pub fits-lent : (x s : Bytes) → x ≡ s → RecordFits s → RecordFits x

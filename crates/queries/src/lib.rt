@@ -1,6 +1,6 @@
 // The two kinds that only read the table: 8, the Handle List Query, and 9, the Rights Information Query.
-use slots::place::Place;
-use tables::lookup::Lookup;
+use decisions::decision::Decision;
+use decisions::decision::LENDABLE;
 ghost use mathlib.Core.Path.{_≡_};
 ghost use Prim.Native.Nat.{_+_, _*_, _≤_};
 ghost use lib.ListN.{length, drop};
@@ -10,13 +10,6 @@ ghost use Rattle.decisions.specs.Serving.{Ready};
 ghost use Rattle.queries.specs.Query.{replyTo};
 
 mod handles; // handles.rt: the handles of kind 8, slot by slot
-
-// Statuses of kind 9.
-const NOT_FOUND: u8 = 4;
-
-const UNEXPECTED: u8 = 6;
-
-const TWO_RECORDS: u8 = 8;
 
 // 8: "More is 1 exactly if a handle was left off." The handles are in the reply before what stands in front of them.
 pub fn handle_list(
@@ -45,14 +38,11 @@ pub fn info(table: &[u8], reply: &mut [u8], h: [u8; 10])
     requires { ⌜ Ready (now table) (now reply) ⌝ }
     ensures { λ _. ⌜ now (reply .exit) ≡ replyTo 9 (info h) (now (table .entry)) (now (reply .entry)) ⌝ }
 {
-    match tables::lookup::look_up(table, h) {
-        Lookup::Absent => reply_writer::writer::reply_status(reply, 9, NOT_FOUND),
-        Lookup::Two => reply_writer::writer::reply_status(reply, 9, TWO_RECORDS),
-        Lookup::At(i, place) => {
-            let Place::Enabled = place else {
-                return reply_writer::writer::reply_status(reply, 9, UNEXPECTED);
-            };
-            reply_writer::writer::reply_info(reply, tables::part::slot_at(table, i));
-        }
+    match decisions::decision::slot_under(table, h, LENDABLE) {
+        Decision::Refuse(status) => reply_writer::writer::reply_status(reply, 9, status),
+        Decision::Change(i, _) => reply_writer::writer::reply_info(
+            reply,
+            tables::part::slot_at(table, i),
+        ),
     }
 }

@@ -25,7 +25,7 @@ use Rattle.decisions.specs.declared.decision.Decision.the-variants.{Refuse, Cha
 use Rattle.decisions.specs.Decisions.{takesPlace, lendable, installed, decided, unlessUsed}
 use Rattle.decisions.specs.Serving.{Ready, answerTo}
 use Rattle.decisions.proofs.Answers.{Denied}
-use Rattle.decisions.proofs.Deciding.{Expects, refuses, stands, Held, held, lending-refused, lending-decided}
+use Rattle.decisions.proofs.Deciding.{Expects, refuses, stands, Held, held, chosen-enabled, lending-refused, lending-decided}
 
 -- ---- the places that the kinds take
 -- 3, 4: "not enabled, 6"
@@ -45,12 +45,6 @@ remove-expects u i (reserved n) q = refl
 remove-expects u i (enabled r) q = absurd (true≢false q)
 remove-expects u i (disabled r) q = absurd (true≢false q)
 
-only-enabled : (p : Place) → takesPlace lendable p ≡ true → p ≡ Enabled
-only-enabled Empty q = absurd (false≢true q)
-only-enabled Reserved q = absurd (false≢true q)
-only-enabled Enabled q = refl
-only-enabled Disabled q = absurd (false≢true q)
-
 -- an else behind `let Place::Disabled`
 pub not-disabled : (p : Place) → OneOf (0 ∷ 1 ∷ 2 ∷ []) (tagOf the-type p) → p ≡ Disabled → ⊥
 not-disabled p others q = ⊎-elim (λ e. omega arith) (⊎-elim (λ e. omega arith) (λ e. omega arith)) (rw q at others)
@@ -64,11 +58,11 @@ module _ (T B h : Bytes) (bytes : Bytes256 T) (r : Ready T B) (d : Decision) whe
   module _ (e : d ≡ decided installed (lookUp h u)) where
     pub enable-refused : (c : Count) (n : ℕ) → d ≡ Refuse n → Denied n (answerTo T (enable h c))
     unfolding act
-    enable-refused c n q = refuses h u installed (enableAt u h c) n (enable-expects u h c) (sym e ∙ q)
+    enable-refused c n q = refuses h u installed (enableAt u h c) (enable-expects u h c) d e n q
 
     pub remove-refused : (n : ℕ) → d ≡ Refuse n → Denied n (answerTo T (remove h))
     unfolding act
-    remove-refused n q = refuses h u installed (removeAt u) n (remove-expects u) (sym e ∙ q)
+    remove-refused n q = refuses h u installed (removeAt u) (remove-expects u) d e n q
 
     module _ (i : ℕ) (o : Place) (q : d ≡ Change i o) where
       -- enabled, or disabled
@@ -103,12 +97,12 @@ module _ (T B h : Bytes) (bytes : Bytes256 T) (r : Ready T B) (d : Decision) whe
   -- 3 and 4, whatever is given
   module _ (k : Bytes) (e : d ≡ unlessUsed (inUse k u) (decided lendable (lookUp h u))) where
     held-to-lend : (i : ℕ) (o : Place) → decided lendable (lookUp h u) ≡ Change i o → Held T h i Enabled
-    held-to-lend i o q = let s = stands h u lendable i o q in held T B h bytes r i Enabled (rw (← only-enabled o (s .1)) (s .0))
+    held-to-lend = chosen-enabled T B h bytes r (decided lendable (lookUp h u)) refl
 
     lend-refused : (give : Right → Given) (n : ℕ) → d ≡ Refuse n → Denied n (onRecord u h (lendAt u k give))
     lend-refused give n q =
         lending-refused (inUse k u) (decided lendable (lookUp h u)) n (sym e ∙ q)
-        (λ before. refuses h u lendable (lendAt u k give) n (lend-expects u k give) before)
+        (λ before. refuses h u lendable (lendAt u k give) (lend-expects u k give) (decided lendable (lookUp h u)) refl n before)
         (λ i o at used five. record { refusal = duplicate; numbered = five; answer = held-to-lend i o at .acted-on (lendAt u k give) ∙ rw used })
 
     pub retrieve-refused : (n : ℕ) → d ≡ Refuse n → Denied n (answerTo T (retrieve h k))

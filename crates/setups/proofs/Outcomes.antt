@@ -1,8 +1,8 @@
 -- The agent's answer to kinds 1, 2 and 7, outcome by outcome. Assumes nothing.
 use Prim.Native.Nat.{ℕ, _≤_, _<_}
-use mathlib.Core.Path.{_≡_, refl, sym, _∙_}
+use mathlib.Core.Path.{_≡_, refl, _∙_}
 use mathlib.Core.List.{List}
-use mathlib.Core.Bool.{true, false, _||_, true≢false, false≢true}
+use mathlib.Core.Bool.{true, false, _||_, true≢false}
 use borrow.Author.Tests.{lt-ltb, le-ltb, eq-eqb, ne-eqb}
 use lib.Dec.{leb, ltb}
 use lib.ListN.{length, set}
@@ -15,17 +15,17 @@ use Rattle.profile.specs.Agent.{nothing, done, installAt, cancelAt, act, lowest
 use Rattle.profile.proofs.Logic.{leb-over, or-parts}
 use Rattle.profile.proofs.Lookup.{lowestEmpty-free}
 use Rattle.slots.specs.declared.place.Place.{Place}
-use Rattle.slots.specs.declared.place.Place.the-variants.{Empty, Reserved, Enabled, Disabled}
+use Rattle.slots.specs.declared.place.Place.the-variants.{Reserved}
 use Rattle.tables.specs.LookUp.{lookUp}
 use Rattle.tables.proofs.SlotParts.{length-slots}
 use Rattle.changes.specs.Change.{slotAt, Has}
 use Rattle.changes.proofs.Standing.{free-place}
 use Rattle.decisions.specs.declared.decision.Decision.{Decision}
 use Rattle.decisions.specs.declared.decision.Decision.the-variants.{Refuse, Change}
-use Rattle.decisions.specs.Decisions.{takesPlace, awaited, decided}
+use Rattle.decisions.specs.Decisions.{awaited, decided}
 use Rattle.decisions.specs.Serving.{Ready, answerTo}
 use Rattle.decisions.proofs.Answers.{Denied}
-use Rattle.decisions.proofs.Deciding.{Expects, refuses, stands, Held, held}
+use Rattle.decisions.proofs.Deciding.{Expects, refuses, Held, chosen-reserved}
 
 -- ---- the places that the kinds take
 -- 2: "record not reserved, 6"; 7: "not reserved, 6"
@@ -39,12 +39,6 @@ cancel-expects u i (reserved n) q = absurd (true≢false q)
 cancel-expects u i (enabled r) q = refl
 cancel-expects u i (disabled r) q = refl
 
-only-reserved : (p : Place) → takesPlace awaited p ≡ true → p ≡ Reserved
-only-reserved Empty q = absurd (false≢true q)
-only-reserved Reserved q = refl
-only-reserved Enabled q = absurd (false≢true q)
-only-reserved Disabled q = absurd (false≢true q)
-
 -- ---- by the decision
 module _ (T B h : Bytes) (bytes : Bytes256 T) (r : Ready T B) (d : Decision) where
   abbrev u : List Slot
@@ -54,15 +48,15 @@ module _ (T B h : Bytes) (bytes : Bytes256 T) (r : Ready T B) (d : Decision) whe
   module _ (e : d ≡ decided awaited (lookUp h u)) where
     pub install-refused : (x : Right) (n : ℕ) → d ≡ Refuse n → Denied n (answerTo T (install h x))
     unfolding act
-    install-refused x n q = refuses h u awaited (installAt u h x) n (install-expects u h x) (sym e ∙ q)
+    install-refused x n q = refuses h u awaited (installAt u h x) (install-expects u h x) d e n q
 
     pub cancel-refused : (n : ℕ) → d ≡ Refuse n → Denied n (answerTo T (cancel h))
     unfolding act
-    cancel-refused n q = refuses h u awaited (cancelAt u) n (cancel-expects u) (sym e ∙ q)
+    cancel-refused n q = refuses h u awaited (cancelAt u) (cancel-expects u) d e n q
 
     module _ (i : ℕ) (o : Place) (q : d ≡ Change i o) where
       pub held-reserved : Held T h i Reserved
-      held-reserved = let s = stands h u awaited i o (sym e ∙ q) in held T B h bytes r i Reserved (rw (← only-reserved o (s .1)) (s .0))
+      held-reserved = chosen-reserved T B h bytes r d e i o q
 
       pub too-long : (x : Right) → word 29 (slotAt T i) < length (x .payload) → Denied 7 (answerTo T (install h x))
       unfolding act
