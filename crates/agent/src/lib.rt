@@ -10,7 +10,7 @@ ghost use Rattle.profile.specs.Frame.{kindNumber};
 ghost use Rattle.profile.specs.Request.{readRequest};
 ghost use Rattle.profile.specs.Agent.{agent, obey, onBytes, lowestEmpty};
 ghost use Rattle.request_reader.specs.Answer.{bodyMeans};
-ghost use Rattle.decisions.specs.Serving.{Ready, Serves, answerTo};
+ghost use Rattle.decisions.specs.Serving.{Ready, Serves, answerAt};
 ghost use Rattle.agent.specs.Call.{outcome, callOf, whyOf, Asks};
 
 // Why an answer is no request.
@@ -26,7 +26,7 @@ fn why_of(ask: Ask) -> Why
 // What a request does, kind by kind.
 fn serve(table: &mut [u8], frame: &[u8], reply: &mut [u8], asked: Asked, body: Body)
     requires { ⌜ Ready (now table) (now reply) × Asks (now frame) asked body ⌝ }
-    ensures { λ _. ⌜ Serves (kindNumber (now (frame .entry))) (answerTo (now (table .entry)) (bodyMeans (now (frame .entry)) body asked)) (now (table .entry)) (now (reply .entry)) (now (table .exit)) (now (reply .exit)) ⌝ }
+    ensures { λ _. ⌜ Serves (kindNumber (now (frame .entry))) (answerAt (lowestEmpty (slotsOf (now (table .entry)))) (now (table .entry)) (bodyMeans (now (frame .entry)) body asked)) (now (table .entry)) (now (reply .entry)) (now (table .exit)) (now (reply .exit)) ⌝ }
 {
     let h = asked.handle;
     let k = asked.new;

@@ -23,7 +23,7 @@ use Rattle.changes.proofs.Standing.{free-place}
 use Rattle.decisions.specs.declared.decision.Decision.{Decision}
 use Rattle.decisions.specs.declared.decision.Decision.the-variants.{Refuse, Change}
 use Rattle.decisions.specs.Decisions.{awaited, decided}
-use Rattle.decisions.specs.Serving.{Ready, answerTo}
+use Rattle.decisions.specs.Serving.{Ready, answerAt, answerTo}
 use Rattle.decisions.proofs.Answers.{Denied}
 use Rattle.decisions.proofs.Deciding.{Expects, refuses, Held, chosen-reserved}
 
@@ -72,17 +72,17 @@ module _ (T B h : Bytes) (bytes : Bytes256 T) (r : Ready T B) (d : Decision) whe
 
 -- ---- 1, by its tests
 module _ (T B h : Bytes) (n : ℕ) (r : Ready T B) where
-  pub no-length : n ≡ 0 → Denied 2 (answerTo T (setup h n))
+  pub no-length : n ≡ 0 → Denied 2 (answerAt (lowestEmpty (slotsOf T)) T (setup h n))
   unfolding act
   no-length z = record { refusal = parameter; numbered = refl; answer = rw (eq-eqb n 0 z) }
 
   module _ (some : n ≡ 0 → ⊥) where
-    pub handle-used : inUse h (slotsOf T) ≡ true → Denied 5 (answerTo T (setup h n))
+    pub handle-used : inUse h (slotsOf T) ≡ true → Denied 5 (answerAt (lowestEmpty (slotsOf T)) T (setup h n))
     unfolding act
     handle-used y = record { refusal = duplicate; numbered = refl; answer = rw (ne-eqb n 0 some, y) }
 
     module _ (free : inUse h (slotsOf T) ≡ false) (i : ℕ) (lowest : i ≡ lowestEmpty (slotsOf T)) where
-      pub no-room : (ltb 4096 n || leb (slotCount T) i) ≡ true → Denied 7 (answerTo T (setup h n))
+      pub no-room : (ltb 4096 n || leb (slotCount T) i) ≡ true → Denied 7 (answerAt (lowestEmpty (slotsOf T)) T (setup h n))
       unfolding act
       no-room y = record { refusal = noSpace; numbered = refl; answer = rw (ne-eqb n 0 some, free, length-slots T, ← lowest, y) }
 
@@ -96,6 +96,6 @@ module _ (T B h : Bytes) (n : ℕ) (r : Ready T B) where
         pub empty-slot : placeOf (slotAt T i) ≡ 0
         empty-slot = rw lowest (free-place T (r .whole) (r .well) (lowestEmpty (slotsOf T)) (lowestEmpty-free (slotsOf T) (rw (length-slots T, ← lowest) below)))
 
-        pub sets-up : answerTo T (setup h n) ≡ done nothing (set (slotsOf T) i (taken h (reserved n)))
+        pub sets-up : answerAt (lowestEmpty (slotsOf T)) T (setup h n) ≡ done nothing (set (slotsOf T) i (taken h (reserved n)))
         unfolding act
         sets-up = rw (ne-eqb n 0 some, free, length-slots T, ← lowest, room)
