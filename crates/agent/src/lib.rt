@@ -1,4 +1,6 @@
 // The card agent: "One call takes a request frame, a lent table of slots and a lent reply buffer."
+use decisions::decision::AWAITED;
+use decisions::decision::INSTALLED;
 use request_reader::asked::Ask;
 use request_reader::asked::Asked;
 use request_reader::asked::Body;
@@ -39,11 +41,11 @@ fn serve(table: &mut [u8], frame: &[u8], reply: &mut [u8], asked: Asked, body: B
             at,
             length,
         } => setups::install::install(table, reply, h, key, count, hashes, frame, at, length),
-        Body::Retrieve => rights::retrieve::retrieve(table, reply, h, k),
-        Body::Rek => rights::rek::rek(table, reply, h, k),
+        Body::Retrieve => rights::lend::lend(table, reply, h, k, 3),
+        Body::Rek => rights::lend::lend(table, reply, h, k, 4),
         Body::Enable { count } => rights::enable::enable(table, reply, h, count),
-        Body::Remove => rights::remove::remove(table, reply, h),
-        Body::Cancel => setups::cancel::cancel(table, reply, h),
+        Body::Remove => removals::clear(table, reply, h, 6, INSTALLED),
+        Body::Cancel => removals::clear(table, reply, h, 7, AWAITED),
         Body::List { limit, hashes, at } => queries::handle_list(
             table,
             reply,

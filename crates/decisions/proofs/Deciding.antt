@@ -6,7 +6,7 @@ use mathlib.Core.Bool.{Bool, true, false, false≢true}
 use native.Mathlib.Omega.{arith}
 use lib.ListN.{drop}
 use Rattle.profile.specs.Bytes.{Bytes, part, Bytes256}
-use Rattle.profile.specs.Slot.{Entry, Slot}
+use Rattle.profile.specs.Slot.{Right, Entry, reserved, enabled, disabled, Slot}
 use Rattle.profile.specs.Table.{placeOf, slotsOf}
 use Rattle.profile.specs.Frame.{notFound, unexpected, twoRecords}
 use Rattle.profile.specs.Agent.{Answer, deny, onRecord}
@@ -57,6 +57,14 @@ changed-is {i} {j} q =
 -- at the places that a request does not take, it is an unexpected one
 abbrev pub Expects : Takes → (ℕ → Entry → Answer) → Type 0
 Expects w f = (i : ℕ) (e : Entry) → takesPlace w (placeOfEntry e) ≡ false → f i e ≡ deny unexpected
+
+pub expects : (w : Takes) (f : ℕ → Entry → Answer)
+    → (w .reserved ≡ false → (i n : ℕ) → f i (reserved n) ≡ deny unexpected)
+    → (w .enabled ≡ false → (i : ℕ) (r : Right) → f i (enabled r) ≡ deny unexpected)
+    → (w .disabled ≡ false → (i : ℕ) (r : Right) → f i (disabled r) ≡ deny unexpected) → Expects w f
+expects w f a b c i (reserved n) q = a q i n
+expects w f a b c i (enabled r) q = b q i r
+expects w f a b c i (disabled r) q = c q i r
 
 module _ (h : Bytes) (u : List Slot) (w : Takes) (f : ℕ → Entry → Answer) where
   pub refuses : Expects w f → (d : Decision) → d ≡ decided w (lookUp h u) → (n : ℕ) → d ≡ Refuse n → Denied n (onRecord u h f)
@@ -129,11 +137,6 @@ module _ (T B h : Bytes) (bytes : Bytes256 T) (r : Ready T B) (i : ℕ) where
       number Reserved l = taken-place s s-bytes h (entryOf Reserved s) (record-at T h i Reserved l .unpacked)
       number Enabled l = taken-place s s-bytes h (entryOf Enabled s) (record-at T h i Enabled l .unpacked)
       number Disabled l = taken-place s s-bytes h (entryOf Disabled s) (record-at T h i Disabled l .unpacked)
-
--- whatever places the request takes, the slot to change is one of the table's
-pub has-slot : (T B h : Bytes) (r : Ready T B) (w : Takes) (d : Decision) → d ≡ decided w (lookUp h (slotsOf T)) → (i : ℕ) (o : Place) → d ≡ Change i o → Has T i
-has-slot T B h r w d e i o q =
-    record { whole = r .whole; well = r .well; inside = record-at T h i o (stands h (slotsOf T) w i o (sym e ∙ q) .0) .below }
 
 -- ---- the places that a request takes, where there is one only
 only-reserved : (p : Place) → takesPlace awaited p ≡ true → p ≡ Reserved

@@ -7,6 +7,8 @@ use Rattle.profile.specs.Bytes.{Bytes256}
 use Rattle.request_reader.specs.declared.asked.Ask.the-variants.{Yes}
 use Rattle.request_reader.proofs.ByCase.{install-within, list-within}
 use Rattle.octets.proofs.ByteBounds.{below-256}
+use Rattle.rights.proofs.Outcomes.{retrieved, queried}
+use Rattle.removals.proofs.Cleared.{removed, cancelled}
 use Rattle.queries.proofs.Untouched.{list-keeps, info-keeps}
 use Rattle.agent.proofs.Steps.{served-at, served}
 use Rattle.agent.proofs.serve.Statement.{statement}
@@ -38,14 +40,14 @@ install-requires c κs =
 enum-told : tie.Need-enum-told
 enum-told c = search needs
 
-retrieve-requires : tie.Need-retrieve-requires
-retrieve-requires c κs = search needs
+lend-requires : tie.Need-lend-requires
+lend-requires c κs = search needs
 
 enum-told-2 : tie.Need-enum-told-2
 enum-told-2 c = search needs
 
-rek-requires : tie.Need-rek-requires
-rek-requires c κs = search needs
+lend-requires-2 : tie.Need-lend-requires-2
+lend-requires-2 c κs = search needs
 
 enum-known-body-3 : tie.Need-enum-known-body-3
 enum-known-body-3 c = search needs
@@ -56,14 +58,14 @@ enable-requires c κs = search needs
 enum-told-3 : tie.Need-enum-told-3
 enum-told-3 c = search needs
 
-remove-requires : tie.Need-remove-requires
-remove-requires c κs = search needs
+clear-requires : tie.Need-clear-requires
+clear-requires c κs = search needs
 
 enum-told-4 : tie.Need-enum-told-4
 enum-told-4 c = search needs
 
-cancel-requires : tie.Need-cancel-requires
-cancel-requires c κs = search needs
+clear-requires-2 : tie.Need-clear-requires-2
+clear-requires-2 c κs = search needs
 
 enum-known-body-4 : tie.Need-enum-known-body-4
 enum-known-body-4 c = search needs
@@ -118,7 +120,7 @@ returns-3 c =
     let done = c .before .before .before .before in
     let told = done .before .before .before in
     let s = start (told .before .before) in
-    served (s .pre .1) _ (told .enum-told .given .1) (omega arith) (done .retrieve .ensures)
+    served (s .pre .1) _ (told .enum-told .given .1) (omega arith) (retrieved _ _ (done .lend .ensures))
 
 same-length-7 : tie.Need-same-length-7
 same-length-7 c = search needs
@@ -131,7 +133,7 @@ returns-4 c =
     let done = c .before .before .before .before in
     let told = done .before .before .before in
     let s = start (told .before .before) in
-    served (s .pre .1) _ (told .enum-told2 .given .1) (omega arith) (done .rek .ensures)
+    served (s .pre .1) _ (told .enum-told2 .given .1) (omega arith) (queried _ _ (done .lend2 .ensures))
 
 same-length-9 : tie.Need-same-length-9
 same-length-9 c = search needs
@@ -157,7 +159,7 @@ returns-6 c =
     let done = c .before .before .before .before in
     let told = done .before .before .before in
     let s = start (told .before .before) in
-    served (s .pre .1) _ (told .enum-told3 .given .1) (omega arith) (done .remove .ensures)
+    served (s .pre .1) _ (told .enum-told3 .given .1) (omega arith) (removed _ (done .clear .ensures))
 
 same-length-13 : tie.Need-same-length-13
 same-length-13 c = search needs
@@ -170,7 +172,7 @@ returns-7 c =
     let done = c .before .before .before .before in
     let told = done .before .before .before in
     let s = start (told .before .before) in
-    served (s .pre .1) _ (told .enum-told4 .given .1) (omega arith) (done .cancel .ensures)
+    served (s .pre .1) _ (told .enum-told4 .given .1) (omega arith) (cancelled _ (done .clear2 .ensures))
 
 same-length-15 : tie.Need-same-length-15
 same-length-15 c = search needs
@@ -211,15 +213,15 @@ serve-spec =
     enum-known-body-2
     install-requires
     enum-told
-    retrieve-requires
+    lend-requires
     enum-told-2
-    rek-requires
+    lend-requires-2
     enum-known-body-3
     enable-requires
     enum-told-3
-    remove-requires
+    clear-requires
     enum-told-4
-    cancel-requires
+    clear-requires-2
     enum-known-body-4
     handle-list-requires
     enum-told-5
