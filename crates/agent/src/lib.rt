@@ -1,6 +1,11 @@
-// The card agent: "One call takes a request frame, a lent table of slots and a lent reply buffer."
+// The card agent: one call, with a request frame, a lent table of slots and a lent reply buffer (PROFILE 1.1).
 use decisions::decision::AWAITED;
 use decisions::decision::INSTALLED;
+use profile::number::DONE;
+use profile::number::REPLY_BUFFER_SHORT;
+use profile::number::TABLE_LENGTH;
+use profile::number::TABLE_NOT_WELL_FORMED;
+use profile::sizes::REPLY_ROOM;
 use request_reader::asked::Ask;
 use request_reader::asked::Asked;
 use request_reader::asked::Body;
@@ -69,22 +74,22 @@ fn answer(table: &mut [u8], frame: &[u8], reply: &mut [u8]) -> u16
         return refusals::refuse(frame, reply, why_of(ask));
     };
     serve(table, frame, reply, asked, body);
-    0
+    DONE
 }
 
-// "101 reply buffer under 4,279 bytes; 102 table length not 1 to 15 whole slots; 103 table not well formed; 104", in this
-// order and with no byte changed; otherwise 0, the reply and the new table. Whatever is lent: nothing is required of it.
+// PROFILE 4.1. 101, 102, 103 and 104, tested in this order and with no byte changed; otherwise 0, the reply and the new table.
+// Nothing is required of what is lent.
 pub fn call(table: &mut [u8], frame: &[u8], reply: &mut [u8]) -> u16
     ensures { λ r. ⌜ outcome r (now (reply .exit)) (now (table .exit)) ≡ agent (now (table .entry)) (callOf (now (frame .entry)) (now (reply .entry))) ⌝ }
 {
-    if reply.len() < 4279 {
-        return 101;
+    if reply.len() < REPLY_ROOM {
+        return REPLY_BUFFER_SHORT;
     }
     if !tables::part::whole_slots(table) {
-        return 102;
+        return TABLE_LENGTH;
     }
     if !tables::table::well_table(table) {
-        return 103;
+        return TABLE_NOT_WELL_FORMED;
     }
     answer(table, frame, reply)
 }

@@ -17,7 +17,7 @@ pub record Denied (n : ℕ) (a : Answer) : Type 0 where
   pub answer : a ≡ deny refusal
 
 module _ (kind : ℕ) (a : Answer) (T B B' : Bytes) where
-  -- "Every status but 0 leaves the table unchanged."
+  -- PROFILE 4.2: a status other than 0 leaves the table as it was
   pub refused-serves : (n : ℕ) → Denied n a → B' ≡ over (frame kind n []) B → Serves kind a T B T B'
   unfolding replyFrame
   refused-serves n d e = rw (d .answer) (record { table-is = refl; reply-is = e ∙ ap (λ (m : ℕ). over (frame kind m []) B) (sym (d .numbered)) })

@@ -6,9 +6,10 @@ use mathlib.Core.Bool.{Bool, true, false, false≢true}
 use native.Mathlib.Omega.{arith}
 use lib.ListN.{drop}
 use Rattle.profile.specs.Bytes.{Bytes, part, Bytes256}
+use Rattle.profile.specs.Sizes.{slotSize}
 use Rattle.profile.specs.Slot.{Right, Entry, reserved, enabled, disabled, Slot}
-use Rattle.profile.specs.Table.{placeOf, slotsOf}
-use Rattle.profile.specs.Frame.{notFound, unexpected, twoRecords}
+use Rattle.profile.specs.Table.{placeOf, handleOf, slotsOf}
+use Rattle.profile.specs.Frame.{notFound, duplicate, unexpected, twoRecords, code}
 use Rattle.profile.specs.Agent.{Answer, deny, onRecord}
 use Rattle.profile.proofs.Strings.{bytes-take, bytes-drop}
 use Rattle.slots.specs.declared.place.Place.{Place}
@@ -35,7 +36,7 @@ module _ (w : Takes) (l : Lookup) (i : ℕ) (p : Place) (b : Bool) (found : l �
   unfolding decided
   taken-decided q = rw (found, ← e, q)
 
-  pub other-decided : b ≡ false → Refuse 6 ≡ decided w l
+  pub other-decided : b ≡ false → Refuse (code unexpected) ≡ decided w l
   unfolding decided
   other-decided q = rw (found, ← e, q)
 
@@ -54,7 +55,7 @@ changed-is {i} {j} q =
     let e : i ≡ j = cc in
     rw (e, placed-is q)
 
--- at the places that a request does not take, it is an unexpected one
+-- at the places that a request does not take, it is refused with 6
 abbrev pub Expects : Takes → (ℕ → Entry → Answer) → Type 0
 Expects w f = (i : ℕ) (e : Entry) → takesPlace w (placeOfEntry e) ≡ false → f i e ≡ deny unexpected
 
@@ -100,15 +101,15 @@ module _ (h : Bytes) (u : List Slot) (w : Takes) (i : ℕ) (o : Place) where
 -- the slot of a record that was found, by its bytes
 pub record Held (T h : Bytes) (i : ℕ) (p : Place) : Type 0 where
   pub has : Has T i
-  pub lent : part (4288 * i) 4288 T ≡ slotAt T i
+  pub lent : part (slotSize * i) slotSize T ≡ slotAt T i
   pub place-is : placeOf (slotAt T i) ≡ placeNumber p
-  pub handle-is : part 1 10 (slotAt T i) ≡ h
+  pub handle-is : handleOf (slotAt T i) ≡ h
   pub fits : RecordFits (slotAt T i)
   pub acted-on : (f : ℕ → Entry → Answer) → onRecord (slotsOf T) h f ≡ f i (entryOf p (slotAt T i))
 
 module _ (T B h : Bytes) (bytes : Bytes256 T) (r : Ready T B) (i : ℕ) where
   abbrev s : Bytes
-  s = part (4288 * i) 4288 T
+  s = part (slotSize * i) slotSize T
 
   pub held : (p : Place) → lookUp h (slotsOf T) ≡ At i p → Held T h i p
   held p l = record {
@@ -130,7 +131,7 @@ module _ (T B h : Bytes) (bytes : Bytes256 T) (r : Ready T B) (i : ℕ) where
       not-empty z = empty-taken h (entryOf p s) (sym (unpack-empty s z) ∙ a .unpacked)
 
       s-bytes : Bytes256 s
-      s-bytes = bytes-take 4288 (drop (4288 * i) T) (bytes-drop (4288 * i) T bytes)
+      s-bytes = bytes-take slotSize (drop (slotSize * i) T) (bytes-drop (slotSize * i) T bytes)
 
       number : (p : Place) → lookUp h (slotsOf T) ≡ At i p → placeOf s ≡ placeNumber p
       number Empty l = absurd (none-empty T h i l)
@@ -166,14 +167,14 @@ module _ (T B h : Bytes) (bytes : Bytes256 T) (r : Ready T B) (d : Decision) whe
 pub fits-lent : (x s : Bytes) → x ≡ s → RecordFits s → RecordFits x
 fits-lent x s e f = rw e f
 
--- ---- lending: "new handle in any non-empty slot, its own included, 5"
+-- ---- lending: 5 where the new handle is in use
 module _ (used : Bool) (d x : Decision) (e : x ≡ d) where
   pub refused-before : (n : ℕ) → x ≡ Refuse n → x ≡ unlessUsed used d
   unfolding unlessUsed
   refused-before n q = rw (← e, q)
 
   module _ (i : ℕ) (p : Place) (q : x ≡ Change i p) where
-    pub used-refused : used ≡ true → Refuse 5 ≡ unlessUsed used d
+    pub used-refused : used ≡ true → Refuse (code duplicate) ≡ unlessUsed used d
     unfolding unlessUsed
     used-refused y = rw (← e, q, y)
 
@@ -183,7 +184,7 @@ module _ (used : Bool) (d x : Decision) (e : x ≡ d) where
 
 module _ (used : Bool) (d : Decision) where
   -- what was decided before, and whether the new handle is free
-  pub lending-refused : {P : Type 0} (n : ℕ) → unlessUsed used d ≡ Refuse n → (d ≡ Refuse n → P) → ((i : ℕ) (o : Place) → d ≡ Change i o → used ≡ true → 5 ≡ n → P) → P
+  pub lending-refused : {P : Type 0} (n : ℕ) → unlessUsed used d ≡ Refuse n → (d ≡ Refuse n → P) → ((i : ℕ) (o : Place) → d ≡ Change i o → used ≡ true → code duplicate ≡ n → P) → P
   unfolding unlessUsed
   lending-refused {P} n e before after = go used d refl refl e
     where

@@ -4,6 +4,7 @@ use mathlib.Core.Path.{_≡_}
 use mathlib.Core.Bool.{true}
 use lib.ListN.{length}
 use Rattle.profile.specs.Bytes.{Bytes}
+use Rattle.profile.specs.Sizes.{replyRoom}
 use Rattle.profile.specs.Table.{slotsOf, wholeSlots, wellTable}
 use Rattle.profile.specs.Request.{Request}
 use Rattle.profile.specs.Agent.{Answer, act, replied}
@@ -12,7 +13,7 @@ use Rattle.profile.specs.Agent.{Answer, act, replied}
 pub record Ready (table buffer : Bytes) : Type 0 where
   pub whole : wholeSlots table ≡ true
   pub well : wellTable table ≡ true
-  pub room : 4279 ≤ length buffer
+  pub room : replyRoom ≤ length buffer
 
 -- what the agent answers to a request, on a table's bytes, where `free` is the slot that a setup takes
 abbrev pub answerAt : ℕ → Bytes → Request → Answer

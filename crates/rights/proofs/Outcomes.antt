@@ -8,10 +8,9 @@ use native.Mathlib.Omega.{arith}
 use types.Run.{OneOf}
 use denote.Enum.Declared.{tagOf}
 use lib.ListN.{set}
-use Rattle.profile.specs.Bytes.{Bytes, part, Bytes256}
-use Rattle.profile.specs.Sizes.{handleAt, handleSize}
+use Rattle.profile.specs.Bytes.{Bytes, Bytes256}
 use Rattle.profile.specs.Slot.{Count, Right, recount, Entry, enabled, disabled, taken, inUse}
-use Rattle.profile.specs.Table.{rightOf, slotsOf}
+use Rattle.profile.specs.Table.{handleOf, rightOf, slotsOf}
 use Rattle.profile.specs.Frame.{duplicate}
 use Rattle.profile.specs.Request.{retrieve, rek, enable}
 use Rattle.profile.specs.Agent.{Given, Answer, nothing, done, onRecord, lendAt, enableAt, act}
@@ -82,7 +81,7 @@ module _ (T h : Bytes) (c : Count) where
   stays i Enabled s n = s .0 .acted-on (enableAt (slotsOf T) h c)
   stays i Disabled s n = absurd (n refl)
 
-  pub returned : (i : ℕ) → Held T h i Disabled → answerTo T (enable h c) ≡ done nothing (set (slotsOf T) i (taken (part handleAt handleSize (slotAt T i)) (enabled (recount c (rightOf (slotAt T i))))))
+  pub returned : (i : ℕ) → Held T h i Disabled → answerTo T (enable h c) ≡ done nothing (set (slotsOf T) i (taken (handleOf (slotAt T i)) (enabled (recount c (rightOf (slotAt T i))))))
   unfolding act
   returned i w =
       w .acted-on (enableAt (slotsOf T) h c)

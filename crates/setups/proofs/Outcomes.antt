@@ -5,10 +5,10 @@ use mathlib.Core.Bool.{true, false, _||_, true≢false}
 use borrow.Author.Tests.{lt-ltb, le-ltb, eq-eqb, ne-eqb}
 use lib.Dec.{leb, ltb}
 use lib.ListN.{length, set}
-use Rattle.profile.specs.Bytes.{Bytes, word}
-use Rattle.profile.specs.Sizes.{mostPayload, lengthAt}
+use Rattle.profile.specs.Bytes.{Bytes}
+use Rattle.profile.specs.Sizes.{mostPayload}
 use Rattle.profile.specs.Slot.{Right, Entry, reserved, enabled, taken, inUse}
-use Rattle.profile.specs.Table.{placeOf, slotCount, slotsOf}
+use Rattle.profile.specs.Table.{placeOf, lengthOf, slotCount, slotsOf}
 use Rattle.profile.specs.Frame.{parameter, duplicate, noSpace, code}
 use Rattle.profile.specs.Request.{setup, install}
 use Rattle.profile.specs.Agent.{Answer, nothing, done, installAt, act, lowestEmpty}
@@ -36,13 +36,13 @@ module _ (T h : Bytes) (x : Right) where
       at = installAt (slotsOf T) h x
 
   module _ {i : ℕ} (w : Held T h i Reserved) where
-    pub too-long : word lengthAt (slotAt T i) < length (x .payload) → Denied (code noSpace) (answerTo T (install h x))
+    pub too-long : lengthOf (slotAt T i) < length (x .payload) → Denied (code noSpace) (answerTo T (install h x))
     unfolding act
-    too-long l = record { refusal = noSpace; numbered = refl; answer = w .acted-on (installAt (slotsOf T) h x) ∙ rw (lt-ltb (word lengthAt (slotAt T i)) (length (x .payload)) l) }
+    too-long l = record { refusal = noSpace; numbered = refl; answer = w .acted-on (installAt (slotsOf T) h x) ∙ rw (lt-ltb (lengthOf (slotAt T i)) (length (x .payload)) l) }
 
-    pub installs : length (x .payload) ≤ word lengthAt (slotAt T i) → answerTo T (install h x) ≡ done nothing (set (slotsOf T) i (taken h (enabled x)))
+    pub installs : length (x .payload) ≤ lengthOf (slotAt T i) → answerTo T (install h x) ≡ done nothing (set (slotsOf T) i (taken h (enabled x)))
     unfolding act
-    installs l = w .acted-on (installAt (slotsOf T) h x) ∙ rw (le-ltb (word lengthAt (slotAt T i)) (length (x .payload)) l)
+    installs l = w .acted-on (installAt (slotsOf T) h x) ∙ rw (le-ltb (lengthOf (slotAt T i)) (length (x .payload)) l)
 
 -- ---- 1, by its tests
 module _ (T h : Bytes) (n : ℕ) where

@@ -4,9 +4,9 @@ use Prim.Native.Nat.{_+_, _*_}
 use mathlib.Core.Path.{_≡_, ap, _∙_}
 use native.Mathlib.Omega.{arith}
 use lib.ListN.{length}
-use Rattle.profile.specs.Bytes.{word}
-use Rattle.profile.specs.Sizes.{hashSize, lengthAt}
+use Rattle.profile.specs.Sizes.{hashSize}
 use Rattle.profile.specs.Slot.{Right}
+use Rattle.profile.specs.Table.{lengthOf}
 use Rattle.profile.specs.Agent.{nothing}
 use Rattle.profile.proofs.Strings.{length-part}
 use Rattle.changes.specs.Change.{slotAt, rightFrom}
@@ -30,8 +30,8 @@ found at =
     chosen-reserved _ _ _ bytes (start d .pre .0) _ (d .slot-under .ensures) _ _ (at .i .given .1)
 
 -- the room that was reserved
-room-is : (r : tie.After-word-at) → r .word-at .result ≡ word lengthAt (slotAt (now (start (r .before .before .before .before .before .before) .args .table)) (r .before .before .before .before .i .given .0 .0))
-room-is r = r .word-at .ensures ∙ ap (word lengthAt) (r .before .slot-at .ensures .0 ∙ found (r .before .before .before .before) .lent)
+room-is : (r : tie.After-word-at) → r .word-at .result ≡ lengthOf (slotAt (now (start (r .before .before .before .before .before .before) .args .table)) (r .before .before .before .before .i .given .0 .0))
+room-is r = r .word-at .ensures ∙ ap lengthOf (r .before .slot-at .ensures .0 ∙ found (r .before .before .before .before) .lent)
 
 -- the right that the request has, and the length of its payload
 abbrev right : tie.Start → Right

@@ -49,6 +49,9 @@ returns-2 c =
 lowest-empty-requires : tie.Need-lowest-empty-requires
 lowest-empty-requires c κs = search needs
 
+cast-if3 : tie.Need-cast-if3
+cast-if3 c = search needs
+
 reply-status-requires-3 : tie.Need-reply-status-requires-3
 reply-status-requires-3 c κs = search needs
 
@@ -100,6 +103,7 @@ set-up-spec =
     same-length-3
     returns-2
     lowest-empty-requires
+    cast-if3
     reply-status-requires-3
     same-length-4
     same-length-5
