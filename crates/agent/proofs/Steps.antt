@@ -8,7 +8,7 @@ use Rattle.profile.specs.Slot.{Slot}
 use Rattle.profile.specs.Table.{slotsOf}
 use Rattle.profile.specs.Frame.{kindNumber}
 use Rattle.profile.specs.Request.{Request, setup, install, retrieve, rek, enable, remove, cancel, list, info, Read, asks, numberOf, readRequest}
-use Rattle.profile.specs.Agent.{Outcome, act, obey, onBytes, lowestEmpty}
+use Rattle.profile.specs.Agent.{Outcome, act, obey, onBytes}
 use Rattle.profile.proofs.Frames.{Reads, reads}
 use Rattle.profile.proofs.Requests.{kind-number}
 use Rattle.request_reader.specs.declared.asked.Why.{Why}
@@ -64,6 +64,6 @@ module _ {f : Bytes} {r : Asked} {b : Body} (a : Asks f r b) where
         → Serves (kindNumber f) (answerAt free table (bodyMeans f b r)) table buffer table' buffer'
     served l s = served-at (rw (slot-unused free 0 (slotsOf table) (bodyMeans f x r) l) s)
 
-  pub obeys : {table buffer table' buffer' : Bytes} → Serves (kindNumber f) (answerAt (lowestEmpty (slotsOf table)) table (bodyMeans f b r)) table buffer table' buffer'
-      → outcome 0 buffer' table' ≡ onBytes (kindNumber f) (obey (readRequest f) (lowestEmpty (slotsOf table)) (slotsOf table)) table buffer
-  obeys s = rw reads-as (ap₂ {C = Outcome} (λ (x y : Bytes). outcome 0 x y) (s .reply-is) (s .table-is))
+  pub obeys : (free : ℕ) {table buffer table' buffer' : Bytes} → Serves (kindNumber f) (answerAt free table (bodyMeans f b r)) table buffer table' buffer'
+      → outcome 0 buffer' table' ≡ onBytes (kindNumber f) (obey (readRequest f) free (slotsOf table)) table buffer
+  obeys free s = rw reads-as (ap₂ {C = Outcome} (λ (x y : Bytes). outcome 0 x y) (s .reply-is) (s .table-is))

@@ -184,7 +184,8 @@ module _ (used : Bool) (d x : Decision) (e : x ≡ d) where
 
 module _ (used : Bool) (d : Decision) where
   -- what was decided before, and whether the new handle is free
-  pub lending-refused : {P : Type 0} (n : ℕ) → unlessUsed used d ≡ Refuse n → (d ≡ Refuse n → P) → ((i : ℕ) (o : Place) → d ≡ Change i o → used ≡ true → code duplicate ≡ n → P) → P
+  pub lending-refused : {P : Type 0} (n : ℕ) → unlessUsed used d ≡ Refuse n → (d ≡ Refuse n → P)
+      → ((i : ℕ) (o : Place) → d ≡ Change i o → used ≡ true → code duplicate ≡ n → P) → P
   unfolding unlessUsed
   lending-refused {P} n e before after = go used d refl refl e
     where

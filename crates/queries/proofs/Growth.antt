@@ -76,11 +76,12 @@ module _ (t b : Bytes) (q : List Bytes) (most : ℕ) where
       pass-listed len-s one d' len-d put =
           let hs : List Bytes = listed q (take i (slotsOf t)) in
           let next : listed q (take (i + 1) (slotsOf t)) ≡ hs ++ (handleOf s ∷ []) = listed-next t q i h s e ∙ rw one in
+          let each : Each handleSize hs = each-passed t q (ready .whole) (ready .well) i in
+          let size : length (handleOf s) ≡ handleSize = length-part handleAt handleSize s (omega arith) in
           record {
             few = omega (arith, p .few);
             sized = len-d ∙ p .sized;
             counted = rw next (omega (arith, p .counted, length-append hs (handleOf s ∷ [])));
             held =
-                rw (next, ← hold-next hs found (handleOf s) b most (each-passed t q (ready .whole) (ready .well) i) (sym (p .counted)) (length-part handleAt handleSize s (omega arith)) (rw (p .sized) at room-next), ← p .held)
-                put;
+                rw (next, ← hold-next hs found (handleOf s) b most each (sym (p .counted)) size (rw (p .sized) at room-next), ← p .held) put;
           }

@@ -44,10 +44,10 @@ module _ (T h : Bytes) (x : Right) where
     unfolding act
     installs l = w .acted-on (installAt (slotsOf T) h x) ∙ rw (le-ltb (lengthOf (slotAt T i)) (length (x .payload)) l)
 
--- ---- 1, by its tests
-module _ (T h : Bytes) (n : ℕ) where
+-- ---- 1, by its tests, whichever slot is the free one
+module _ (T h : Bytes) (n free : ℕ) where
   abbrev answer : Answer
-  answer = answerAt (lowestEmpty (slotsOf T)) T (setup h n)
+  answer = answerAt free T (setup h n)
 
   pub no-length : n ≡ 0 → Denied (code parameter) answer
   unfolding act
@@ -58,16 +58,16 @@ module _ (T h : Bytes) (n : ℕ) where
     unfolding act
     handle-used y = record { refusal = duplicate; numbered = refl; answer = rw (ne-eqb n 0 some, y) }
 
-    module _ (fresh : inUse h (slotsOf T) ≡ false) (i : ℕ) (lowest : i ≡ lowestEmpty (slotsOf T)) where
+    module _ (fresh : inUse h (slotsOf T) ≡ false) (i : ℕ) (taken-is : i ≡ free) where
       pub no-room : (ltb mostPayload n || leb (slotCount T) i) ≡ true → Denied (code noSpace) answer
       unfolding act
-      no-room y = record { refusal = noSpace; numbered = refl; answer = rw (ne-eqb n 0 some, fresh, length-slots T, ← lowest, y) }
+      no-room y = record { refusal = noSpace; numbered = refl; answer = rw (ne-eqb n 0 some, fresh, length-slots T, ← taken-is, y) }
 
       pub sets-up : (ltb mostPayload n || leb (slotCount T) i) ≡ false → answer ≡ done nothing (set (slotsOf T) i (taken h (reserved n)))
       unfolding act
-      sets-up y = rw (ne-eqb n 0 some, fresh, length-slots T, ← lowest, y)
+      sets-up y = rw (ne-eqb n 0 some, fresh, length-slots T, ← taken-is, y)
 
--- where there is room, the slot is one of the table's, and empty
+-- the lowest empty slot, where there is room: one of the table's, and empty
 pub has-room : (T B : Bytes) → Ready T B → (n i : ℕ) → i ≡ lowestEmpty (slotsOf T) → (ltb mostPayload n || leb (slotCount T) i) ≡ false → Has T i × (placeOf (slotAt T i) ≡ 0)
 has-room T B r n i lowest y = (
   record { whole = r .whole; well = r .well; inside = below },

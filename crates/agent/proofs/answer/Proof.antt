@@ -60,7 +60,7 @@ returns-2 : tie.Need-returns-2
 returns-2 c =
     let done = c .before .before .before .before in
     let told = done .before .before .before .before in
-    obeys (record { answers = told .before .before .read-request .ensures; yes = told .ask .given .1 }) (done .serve .ensures)
+    obeys (record { answers = told .before .before .read-request .ensures; yes = told .ask .given .1 }) _ (done .serve .ensures)
 
 pub answer-spec : {M : Type 1} → statement M
 answer-spec =

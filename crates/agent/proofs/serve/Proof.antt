@@ -93,8 +93,7 @@ returns : tie.Need-returns
 returns c =
     let done = c .before .before .before .before in
     let told = done .before .before .before .before in
-    let s = start (told .before .before) in
-    served-at (s .pre .1) _ (told .body .given .1) (done .set-up .ensures)
+    served-at (start (told .before .before) .pre .1) _ (told .body .given .1) (done .set-up .ensures)
 
 same-length-3 : tie.Need-same-length-3
 same-length-3 c = search needs
@@ -106,8 +105,7 @@ returns-2 : tie.Need-returns-2
 returns-2 c =
     let done = c .before .before .before .before in
     let told = done .before .before .before .before in
-    let s = start (told .before .before) in
-    served (s .pre .1) _ (told .body2 .given .1) (omega arith) (done .install .ensures)
+    served (start (told .before .before) .pre .1) _ (told .body2 .given .1) (omega arith) (done .install .ensures)
 
 same-length-5 : tie.Need-same-length-5
 same-length-5 c = search needs
@@ -119,8 +117,7 @@ returns-3 : tie.Need-returns-3
 returns-3 c =
     let done = c .before .before .before .before in
     let told = done .before .before .before in
-    let s = start (told .before .before) in
-    served (s .pre .1) _ (told .enum-told .given .1) (omega arith) (retrieved _ _ (done .lend .ensures))
+    served (start (told .before .before) .pre .1) _ (told .enum-told .given .1) (omega arith) (retrieved _ _ (done .lend .ensures))
 
 same-length-7 : tie.Need-same-length-7
 same-length-7 c = search needs
@@ -132,8 +129,7 @@ returns-4 : tie.Need-returns-4
 returns-4 c =
     let done = c .before .before .before .before in
     let told = done .before .before .before in
-    let s = start (told .before .before) in
-    served (s .pre .1) _ (told .enum-told2 .given .1) (omega arith) (queried _ _ (done .lend2 .ensures))
+    served (start (told .before .before) .pre .1) _ (told .enum-told2 .given .1) (omega arith) (queried _ _ (done .lend2 .ensures))
 
 same-length-9 : tie.Need-same-length-9
 same-length-9 c = search needs
@@ -145,8 +141,7 @@ returns-5 : tie.Need-returns-5
 returns-5 c =
     let done = c .before .before .before .before in
     let told = done .before .before .before .before in
-    let s = start (told .before .before) in
-    served (s .pre .1) _ (told .body3 .given .1) (omega arith) (done .enable .ensures)
+    served (start (told .before .before) .pre .1) _ (told .body3 .given .1) (omega arith) (done .enable .ensures)
 
 same-length-11 : tie.Need-same-length-11
 same-length-11 c = search needs
@@ -158,8 +153,7 @@ returns-6 : tie.Need-returns-6
 returns-6 c =
     let done = c .before .before .before .before in
     let told = done .before .before .before in
-    let s = start (told .before .before) in
-    served (s .pre .1) _ (told .enum-told3 .given .1) (omega arith) (removed _ (done .clear .ensures))
+    served (start (told .before .before) .pre .1) _ (told .enum-told3 .given .1) (omega arith) (removed _ (done .clear .ensures))
 
 same-length-13 : tie.Need-same-length-13
 same-length-13 c = search needs
@@ -171,8 +165,7 @@ returns-7 : tie.Need-returns-7
 returns-7 c =
     let done = c .before .before .before .before in
     let told = done .before .before .before in
-    let s = start (told .before .before) in
-    served (s .pre .1) _ (told .enum-told4 .given .1) (omega arith) (cancelled _ (done .clear2 .ensures))
+    served (start (told .before .before) .pre .1) _ (told .enum-told4 .given .1) (omega arith) (cancelled _ (done .clear2 .ensures))
 
 same-length-15 : tie.Need-same-length-15
 same-length-15 c = search needs

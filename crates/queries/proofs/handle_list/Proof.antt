@@ -60,7 +60,8 @@ returns c =
     let closed = c .before .before in
     let p = closed .before .before .before .before .before in
     let s = start p in
-    closed-whole _ _ (s .pre .0) (s .args .limit) (query s) _ _ _ (found p .0) (p .before .before .most-handles .ensures) (found p .1) (closed .before .before .if1 .taken) _ (closed .close-list .ensures)
+    closed-whole _ _ (s .pre .0) (s .args .limit) (query s) _ _ _
+    (found p .0) (p .before .before .most-handles .ensures) (found p .1) (closed .before .before .if1 .taken) _ (closed .close-list .ensures)
 
 same-length-2 : tie.Need-same-length-2
 same-length-2 c = search needs
@@ -70,7 +71,8 @@ returns-2 c =
     let closed = c .before .before in
     let p = closed .before .before .before .before .before in
     let s = start p in
-    closed-short _ _ (s .pre .0) (s .args .limit) (query s) _ _ _ (found p .0) (p .before .before .most-handles .ensures) (found p .1) (closed .before .before .if1 .left) _ (closed .close-list2 .ensures)
+    closed-short _ _ (s .pre .0) (s .args .limit) (query s) _ _ _
+    (found p .0) (p .before .before .most-handles .ensures) (found p .1) (closed .before .before .if1 .left) _ (closed .close-list2 .ensures)
 
 pub handle-list-spec : {M : Type 1} → statement M
 handle-list-spec =

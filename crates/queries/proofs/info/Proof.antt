@@ -5,7 +5,7 @@ use native.Mathlib.Omega.{arith}
 use Rattle.octets.proofs.ByteBounds.{below-256}
 use Rattle.slots.specs.declared.place.Place.the-variants.{Enabled}
 use Rattle.decisions.proofs.Deciding.{Held, chosen-enabled, fits-lent}
-use Rattle.queries.proofs.Informed.{info-refused, info-told}
+use Rattle.queries.proofs.Informed.{info-refused, info-done}
 use borrow.Author.Needs.{needs}
 use Rattle.queries.proofs.info.Statement.{statement}
 use Rattle.queries.proofs.info.Tie as tie
@@ -54,7 +54,7 @@ same-length-2 : tie.Need-same-length-2
 same-length-2 c = search needs
 
 returns-2 : tie.Need-returns-2
-returns-2 c = info-told _ _ _ _ (found (c .before .before .before .before .before .before)) _ (c .before .before .before .slot-at .ensures .0) _ (c .before .before .reply-info .ensures)
+returns-2 c = info-done _ _ _ _ (found (c .before .before .before .before .before .before)) _ (c .before .before .before .slot-at .ensures .0) _ (c .before .before .reply-info .ensures)
 
 pub info-spec : {M : Type 1} → statement M
 info-spec =

@@ -3,7 +3,6 @@ use denote.Ref.{now}
 use mathlib.Core.Path.{_≡_}
 use mathlib.Core.Bool.{true}
 use Rattle.profile.specs.Table.{slotsOf}
-use Rattle.profile.specs.Agent.{nothing}
 use Rattle.octets.proofs.ByteBounds.{below-256}
 use Rattle.decisions.specs.Decisions.{takesPlace}
 use Rattle.decisions.proofs.Answers.{refused-serves, done-serves}
@@ -52,7 +51,7 @@ returns c =
     let replied = c .before .before in
     let at = replied .before .before .before in
     let d = at .before .before in
-    refused-serves _ _ _ _ _ _ (refuses _ _ _ _ (clear-expects _ (slotsOf (now (start d .args .table)))) _ (d .slot-under .ensures) _ (at .status .given .1)) (replied .reply-status .ensures)
+    refused-serves (refuses _ _ _ _ (clear-expects _ (slotsOf (now (start d .args .table)))) _ (d .slot-under .ensures) _ (at .status .given .1)) (replied .reply-status .ensures)
 
 same-length-3 : tie.Need-same-length-3
 same-length-3 c = search needs
@@ -63,7 +62,7 @@ same-length-4 c = search needs
 returns-2 : tie.Need-returns-2
 returns-2 c =
     let changed = c .before .before .before .before .before .before in
-    done-serves _ _ _ _ _ nothing _ _ (cleared _ _ _ _ _ (found (changed .before .before .before))) (changed .clear-slot .ensures) (c .before .before .reply-status2 .ensures)
+    done-serves (cleared _ _ _ _ _ (found (changed .before .before .before))) (changed .clear-slot .ensures) (c .before .before .reply-status2 .ensures)
 
 pub clear-spec : {M : Type 1} → statement M
 clear-spec =

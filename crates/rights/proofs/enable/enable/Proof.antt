@@ -3,8 +3,8 @@ use denote.Ref.{now}
 use mathlib.Core.Path.{_≡_}
 use mathlib.Core.Bool.{true}
 use Rattle.profile.specs.Bytes.{Bytes256}
-use Rattle.profile.specs.Agent.{nothing}
 use Rattle.octets.proofs.ByteBounds.{below-256}
+use Rattle.slots.specs.declared.place.Place.{Place}
 use Rattle.slots.specs.declared.place.Place.the-variants.{Disabled}
 use Rattle.decisions.specs.Decisions.{takesPlace, installed}
 use Rattle.decisions.proofs.Answers.{refused-serves, done-serves, kept-serves}
@@ -21,14 +21,16 @@ start d = d .before .before .before .before
 bytes : (d : tie.After-slot-under) → Bytes256 (now (start d .args .table))
 bytes d = below-256 (now (start d .args .table)) (d .before .before .before .slice-known .given)
 
-found : (at : tie.After-i) → Held (now (start (at .before .before) .args .table)) (start (at .before .before) .args .h) (at .i .given .0 .0) (at .i .given .0 .1 .0)
-    × (takesPlace installed (at .i .given .0 .1 .0) ≡ true)
+-- slot i has the record, at the place o
+abbrev Record : tie.After-i → Place → Type 0
+Record at o = Held (now (start (at .before .before) .args .table)) (start (at .before .before) .args .h) (at .i .given .0 .0) o
+
+found : (at : tie.After-i) → Record at (at .i .given .0 .1 .0) × (takesPlace installed (at .i .given .0 .1 .0) ≡ true)
 found at =
     let d = at .before .before in
     chosen _ _ _ (bytes d) (start d .pre) _ _ (d .slot-under .ensures) _ _ (at .i .given .1)
 
--- the record is disabled
-disabled : (told : tie.After-enum-told) → Held (now (start (told .before .before .before .before .before) .args .table)) (start (told .before .before .before .before .before) .args .h) (told .before .before .before .i .given .0 .0) Disabled
+disabled : (told : tie.After-enum-told) → Record (told .before .before .before) Disabled
 disabled told = rw (told .enum-told .given .1) at (found (told .before .before .before) .0)
 
 slot-under-requires : tie.Need-slot-under-requires
@@ -61,7 +63,7 @@ returns c =
     let other = replied .before .before in
     let at = other .before .before in
     let d = at .before .before in
-    kept-serves _ _ _ _ _ (bytes d) (start d .pre) (stays _ _ (start d .args .count) _ _ (found at) (not-disabled _ (other .match2 .keys2))) (replied .reply-status2 .ensures)
+    kept-serves (bytes d) (start d .pre) (stays _ _ (start d .args .count) _ _ (found at) (not-disabled _ (other .match2 .keys2))) (replied .reply-status2 .ensures)
 
 give-back-requires : tie.Need-give-back-requires
 give-back-requires c κs =
@@ -82,7 +84,7 @@ returns-2 c =
     let replied = c .before .before in
     let at = replied .before .before .before in
     let d = at .before .before in
-    refused-serves _ _ _ _ _ _ (enable-refused _ (start d .args .h) (start d .args .count) _ (d .slot-under .ensures) _ (at .status .given .1)) (replied .reply-status .ensures)
+    refused-serves (enable-refused _ (start d .args .h) (start d .args .count) _ (d .slot-under .ensures) _ (at .status .given .1)) (replied .reply-status .ensures)
 
 same-length-5 : tie.Need-same-length-5
 same-length-5 c = search needs
@@ -94,7 +96,8 @@ returns-3 : tie.Need-returns-3
 returns-3 c =
     let changed = c .before .before .before .before .before .before in
     let told = changed .before .before in
-    done-serves _ _ _ _ _ nothing _ _ (returned _ _ (start (told .before .before .before .before .before) .args .count) _ (disabled told)) (changed .give-back .ensures) (c .before .before .reply-status3 .ensures)
+    let d = told .before .before .before .before .before in
+    done-serves (returned _ _ (start d .args .count) _ (disabled told)) (changed .give-back .ensures) (c .before .before .reply-status3 .ensures)
 
 pub enable-spec : {M : Type 1} → statement M
 enable-spec =

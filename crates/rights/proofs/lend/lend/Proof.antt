@@ -67,7 +67,7 @@ returns c =
     let replied = c .before .before in
     let at = replied .before .before .before in
     let d = at .before .before in
-    refused-serves _ _ _ _ _ _ (lend-refused _ _ _ _ (bytes d) (start d .pre .0) _ (d .slot-to-lend .ensures) (lentBy (start d .args .kind)) _ (at .status .given .1)) (replied .reply-status .ensures)
+    refused-serves (lend-refused _ _ _ _ (bytes d) (start d .pre .0) _ (d .slot-to-lend .ensures) (lentBy (start d .args .kind)) _ (at .status .given .1)) (replied .reply-status .ensures)
 
 same-length-3 : tie.Need-same-length-3
 same-length-3 c = search needs
@@ -84,7 +84,7 @@ returns-2 c =
     let d = at .before .before in
     let a = start d .args in
     let given : Bytes → Bytes = λ s. over (frame (a .kind) 0 (writeGiven (lentBy (a .kind) (rightOf s)))) (now (a .reply)) in
-    done-serves _ _ _ _ _ _ _ _ (lends _ _ _ _ (bytes d) (start d .pre .0) _ (d .slot-to-lend .ensures) _ _ (at .i .given .1) (lentBy (a .kind))) (changed .relabel .ensures)
+    done-serves (lends _ _ _ _ (bytes d) (start d .pre .0) _ (d .slot-to-lend .ensures) _ _ (at .i .given .1) (lentBy (a .kind))) (changed .relabel .ensures)
     (replied .reply-lent .ensures ∙ ap given (lent .slot-at .ensures .0 ∙ found at .lent))
 
 pub lend-spec : {M : Type 1} → statement M

@@ -7,7 +7,6 @@ use lib.ListN.{length}
 use Rattle.profile.specs.Sizes.{hashSize}
 use Rattle.profile.specs.Slot.{Right}
 use Rattle.profile.specs.Table.{lengthOf}
-use Rattle.profile.specs.Agent.{nothing}
 use Rattle.profile.proofs.Strings.{length-part}
 use Rattle.changes.specs.Change.{slotAt, rightFrom}
 use Rattle.octets.proofs.ByteBounds.{below-256}
@@ -30,7 +29,8 @@ found at =
     chosen-reserved _ _ _ bytes (start d .pre .0) _ (d .slot-under .ensures) _ _ (at .i .given .1)
 
 -- the room that was reserved
-room-is : (r : tie.After-word-at) → r .word-at .result ≡ lengthOf (slotAt (now (start (r .before .before .before .before .before .before) .args .table)) (r .before .before .before .before .i .given .0 .0))
+room-is : (r : tie.After-word-at)
+    → r .word-at .result ≡ lengthOf (slotAt (now (start (r .before .before .before .before .before .before) .args .table)) (r .before .before .before .before .i .given .0 .0))
 room-is r = r .word-at .ensures ∙ ap lengthOf (r .before .slot-at .ensures .0 ∙ found (r .before .before .before .before) .lent)
 
 -- the right that the request has, and the length of its payload
@@ -78,7 +78,7 @@ returns c =
     let s = start (at .before .before) in
     let room = room-is (short .before) in
     let size = size-is s in
-    refused-serves _ _ _ _ _ _ (too-long _ _ (right s) (found at) (omega (arith, size, room, short .if1 .taken))) (replied .reply-status2 .ensures)
+    refused-serves (too-long _ _ (right s) (found at) (omega (arith, size, room, short .if1 .taken))) (replied .reply-status2 .ensures)
 
 store-right-requires : tie.Need-store-right-requires
 store-right-requires c κs =
@@ -101,7 +101,7 @@ returns-2 c =
     let replied = c .before .before in
     let at = replied .before .before .before in
     let d = at .before .before in
-    refused-serves _ _ _ _ _ _ (install-refused _ (start d .args .h) (right (start d)) _ (d .slot-under .ensures) _ (at .status .given .1)) (replied .reply-status .ensures)
+    refused-serves (install-refused _ (start d .args .h) (right (start d)) _ (d .slot-under .ensures) _ (at .status .given .1)) (replied .reply-status .ensures)
 
 same-length-5 : tie.Need-same-length-5
 same-length-5 c = search needs
@@ -117,7 +117,7 @@ returns-3 c =
     let s = start (at .before .before) in
     let room = room-is (long .before) in
     let size = size-is s in
-    done-serves _ _ _ _ _ nothing _ _ (installs _ _ (right s) (found at) (omega (arith, size, room, long .if1 .left))) (changed .store-right .ensures) (c .before .before .reply-status3 .ensures)
+    done-serves (installs _ _ (right s) (found at) (omega (arith, size, room, long .if1 .left))) (changed .store-right .ensures) (c .before .before .reply-status3 .ensures)
 
 pub install-spec : {M : Type 1} → statement M
 install-spec =

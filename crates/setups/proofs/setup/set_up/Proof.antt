@@ -4,7 +4,6 @@ use mathlib.Core.Path.{_≡_, sym, _∙_}
 use mathlib.Core.Bool.{false}
 use Rattle.profile.specs.Slot.{inUse}
 use Rattle.profile.specs.Table.{slotsOf}
-use Rattle.profile.specs.Agent.{nothing}
 use Rattle.decisions.proofs.Answers.{refused-serves, done-serves}
 use Rattle.setups.proofs.Outcomes.{no-length, handle-used, no-room, has-room, sets-up}
 use borrow.Author.Needs.{needs}
@@ -25,7 +24,7 @@ same-length : tie.Need-same-length
 same-length c = search needs
 
 returns : tie.Need-returns
-returns c = refused-serves _ _ _ _ _ _ (no-length _ _ _ (c .before .before .before .before .if1 .taken)) (c .before .before .reply-status .ensures)
+returns c = refused-serves (no-length _ _ _ _ (c .before .before .before .before .if1 .taken)) (c .before .before .reply-status .ensures)
 
 in-use-requires : tie.Need-in-use-requires
 in-use-requires c κs = search needs
@@ -44,7 +43,7 @@ returns-2 c =
     let replied = c .before .before in
     let used = replied .before .before in
     let some = used .before .before .before in
-    refused-serves _ _ _ _ _ _ (handle-used _ _ _ (some .if1 .left) (sym (used .before .in-use .ensures) ∙ used .if2 .taken)) (replied .reply-status2 .ensures)
+    refused-serves (handle-used _ _ _ _ (some .if1 .left) (sym (used .before .in-use .ensures) ∙ used .if2 .taken)) (replied .reply-status2 .ensures)
 
 lowest-empty-requires : tie.Need-lowest-empty-requires
 lowest-empty-requires c κs = search needs
@@ -66,7 +65,7 @@ returns-3 c =
     let replied = c .before .before in
     let full = replied .before .before in
     let new = full .before .before .before in
-    refused-serves _ _ _ _ _ _ (no-room _ _ _ (new .before .before .before .if1 .left) (fresh new) _ (full .before .lowest-empty .ensures) (full .if3 .taken)) (replied .reply-status3 .ensures)
+    refused-serves (no-room _ _ _ _ (new .before .before .before .if1 .left) (fresh new) _ (full .before .lowest-empty .ensures) (full .if3 .taken)) (replied .reply-status3 .ensures)
 
 store-reservation-requires : tie.Need-store-reservation-requires
 store-reservation-requires c κs =
@@ -88,7 +87,8 @@ returns-4 c =
     let changed = c .before .before .before .before .before .before in
     let room = changed .before .before in
     let new = room .before .before .before in
-    done-serves _ _ _ _ _ nothing _ _ (sets-up _ _ _ (new .before .before .before .if1 .left) (fresh new) _ (room .before .lowest-empty .ensures) (room .if3 .left)) (changed .store-reservation .ensures) (c .before .before .reply-status4 .ensures)
+    done-serves (sets-up _ _ _ _ (new .before .before .before .if1 .left) (fresh new) _ (room .before .lowest-empty .ensures) (room .if3 .left))
+    (changed .store-reservation .ensures) (c .before .before .reply-status4 .ensures)
 
 pub set-up-spec : {M : Type 1} → statement M
 set-up-spec =
