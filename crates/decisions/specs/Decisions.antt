@@ -8,7 +8,7 @@ use Rattle.tables.specs.declared.lookup.Lookup.{Lookup}
 use Rattle.tables.specs.declared.lookup.Lookup.the-variants.{Absent, Two, At}
 use Rattle.decisions.specs.declared.decision.Takes.{Takes}
 use Rattle.decisions.specs.declared.decision.Decision.{Decision}
-use Rattle.decisions.specs.declared.decision.Decision.the-variants.{Refuse, Change}
+use Rattle.decisions.specs.declared.decision.Decision.the-variants.{Refuse, Take}
 
 -- is the place one that is taken? No record is empty
 abbrev pub takesPlace : Takes → Place → Bool
@@ -21,7 +21,7 @@ takesPlace w Disabled = w .disabled
 unfoldable pub decided : Takes → Lookup → Decision
 decided w Absent = Refuse (code notFound)
 decided w Two = Refuse (code twoRecords)
-decided w (At i p) = if takesPlace w p then Change i p else Refuse (code unexpected)
+decided w (At i p) = if takesPlace w p then Take i p else Refuse (code unexpected)
 
 -- the places that the kinds take: 2 and 7; 3, 4 and 9; 5 and 6
 abbrev pub awaited : Takes
@@ -36,4 +36,4 @@ installed = record { reserved = false; enabled = true; disabled = true }
 -- kinds 3 and 4: what was decided before, unless the new handle is in use, be it in the record's own slot
 unfoldable pub unlessUsed : Bool → Decision → Decision
 unlessUsed used (Refuse n) = Refuse n
-unlessUsed used (Change i p) = if used then Refuse (code duplicate) else Change i p
+unlessUsed used (Take i p) = if used then Refuse (code duplicate) else Take i p

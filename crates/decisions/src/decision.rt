@@ -10,10 +10,10 @@ ghost use Rattle.profile.specs.Table.{slotsOf};
 ghost use Rattle.tables.specs.LookUp.{lookUp};
 ghost use Rattle.decisions.specs.Decisions.{takesPlace, decided};
 
-// Refused with a status; or the slot to change, and the place of its record.
+// Refused with a status; or taken: the slot of the record, and the record's place.
 pub enum Decision {
     Refuse(u8),
-    Change(usize, Place),
+    Take(usize, Place),
 }
 
 // Of which places a kind of request takes a record.
@@ -64,7 +64,7 @@ pub fn slot_under(table: &[u8], h: [u8; HANDLE_BYTES], takes: Takes) -> Decision
         Lookup::Absent => Decision::Refuse(HANDLE_NOT_FOUND),
         Lookup::Two => Decision::Refuse(TWO_RECORDS),
         Lookup::At(i, place) => if takes_place(takes, place) {
-            Decision::Change(i, place)
+            Decision::Take(i, place)
         } else {
             Decision::Refuse(UNEXPECTED_REQUEST)
         },

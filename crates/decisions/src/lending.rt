@@ -15,7 +15,7 @@ pub fn slot_to_lend(table: &[u8], h: [u8; HANDLE_BYTES], k: [u8; HANDLE_BYTES]) 
     ensures { λ r. ⌜ r ≡ unlessUsed (inUse k (slotsOf (now (table .entry)))) (decided lendable (lookUp h (slotsOf (now (table .entry))))) ⌝ }
 {
     let decision = crate::decision::slot_under(table, h, LENDABLE);
-    let Decision::Change(_, _) = decision else {
+    let Decision::Take(_, _) = decision else {
         return decision;
     };
     if tables::handle::in_use(table, k) {

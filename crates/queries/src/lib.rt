@@ -42,7 +42,7 @@ pub fn info(table: &[u8], reply: &mut [u8], h: [u8; HANDLE_BYTES])
 {
     match decisions::decision::slot_under(table, h, LENDABLE) {
         Decision::Refuse(status) => reply_writer::writer::reply_status(reply, 9, status),
-        Decision::Change(i, _) => reply_writer::writer::reply_info(
+        Decision::Take(i, _) => reply_writer::writer::reply_info(
             reply,
             tables::part::slot_at(table, i),
         ),

@@ -17,7 +17,7 @@ pub fn clear(table: &mut [u8], reply: &mut [u8], h: [u8; HANDLE_BYTES], kind: u8
 {
     match decisions::decision::slot_under(table, h, takes) {
         Decision::Refuse(status) => reply_writer::writer::reply_status(reply, kind, status),
-        Decision::Change(i, _) => {
+        Decision::Take(i, _) => {
             changes::clear_slot(table, i);
             reply_writer::writer::reply_status(reply, kind, SUCCESS)
         }

@@ -20,7 +20,7 @@ use Rattle.slots.proofs.place.Place.{the-type}
 use Rattle.tables.specs.LookUp.{lookUp}
 use Rattle.changes.specs.Change.{slotAt}
 use Rattle.decisions.specs.declared.decision.Decision.{Decision}
-use Rattle.decisions.specs.declared.decision.Decision.the-variants.{Refuse, Change}
+use Rattle.decisions.specs.declared.decision.Decision.the-variants.{Refuse, Take}
 use Rattle.decisions.specs.Decisions.{takesPlace, lendable, installed, decided, unlessUsed}
 use Rattle.decisions.specs.Serving.{Ready, Serves, answerTo}
 use Rattle.decisions.proofs.Answers.{Denied}
@@ -41,8 +41,8 @@ module _ (T B h k : Bytes) (bytes : Bytes256 T) (r : Ready T B) (d : Decision) (
       at : ℕ → Entry → Answer
       at = lendAt (slotsOf T) k give
 
-  module _ (i : ℕ) (o : Place) (q : d ≡ Change i o) where
-    free : (inUse k (slotsOf T) ≡ false) × (before ≡ Change i o)
+  module _ (i : ℕ) (o : Place) (q : d ≡ Take i o) where
+    free : (inUse k (slotsOf T) ≡ false) × (before ≡ Take i o)
     free = lending-decided (inUse k (slotsOf T)) before i o (sym e ∙ q)
 
     pub to-lend : Held T h i Enabled

@@ -16,7 +16,7 @@ pub fn enable(table: &mut [u8], reply: &mut [u8], h: [u8; HANDLE_BYTES], count: 
 {
     match decisions::decision::slot_under(table, h, INSTALLED) {
         Decision::Refuse(status) => reply_writer::writer::reply_status(reply, 5, status),
-        Decision::Change(i, place) => {
+        Decision::Take(i, place) => {
             let Place::Disabled = place else {
                 reply_writer::writer::reply_status(reply, 5, SUCCESS);
                 return;

@@ -38,7 +38,7 @@ pub fn lend(
 {
     match decisions::lending::slot_to_lend(table, h, k) {
         Decision::Refuse(status) => reply_writer::writer::reply_status(reply, kind, status),
-        Decision::Change(i, _) => {
+        Decision::Take(i, _) => {
             reply_lent(reply, tables::part::slot_at(table, i), kind);
             changes::relabel(table, i, k)
         }

@@ -30,7 +30,7 @@ pub fn install(
 {
     match decisions::decision::slot_under(table, h, AWAITED) {
         Decision::Refuse(status) => reply_writer::writer::reply_status(reply, 2, status),
-        Decision::Change(i, _) => {
+        Decision::Take(i, _) => {
             let room = words::word_at(tables::part::slot_at(table, i), LENGTH_AT) as usize;
             if room < size {
                 reply_writer::writer::reply_status(reply, 2, NOT_ENOUGH_SPACE);
