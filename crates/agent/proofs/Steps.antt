@@ -1,13 +1,14 @@
 -- From the frame's reading to the profile's agent: one law for each step of the call.
-use Prim.Native.Nat.{ℕ}
-use mathlib.Core.Path.{_≡_, sym, ap, ap₂, _∙_}
+use Prim.Native.Nat.{ℕ, _<_}
+use mathlib.Core.Path.{_≡_, refl, sym, ap, ap₂, _∙_}
 use mathlib.Core.List.{List}
+use native.Mathlib.Omega.{arith}
 use Rattle.profile.specs.Bytes.{Bytes}
 use Rattle.profile.specs.Slot.{Slot}
 use Rattle.profile.specs.Table.{slotsOf}
 use Rattle.profile.specs.Frame.{kindNumber}
-use Rattle.profile.specs.Request.{Request, Read, asks, numberOf, readRequest}
-use Rattle.profile.specs.Agent.{Outcome, tableAfter, obey, onBytes, lowestEmpty}
+use Rattle.profile.specs.Request.{Request, setup, install, retrieve, rek, enable, remove, cancel, list, info, Read, asks, numberOf, readRequest}
+use Rattle.profile.specs.Agent.{Outcome, act, obey, onBytes}
 use Rattle.profile.proofs.Frames.{Reads, reads}
 use Rattle.profile.proofs.Requests.{kind-number}
 use Rattle.request_reader.specs.declared.asked.Why.{Why}
@@ -16,8 +17,7 @@ use Rattle.request_reader.specs.declared.asked.Ask.the-variants.{No}
 use Rattle.request_reader.specs.declared.asked.Asked.{Asked}
 use Rattle.request_reader.specs.Answer.{Answers, whyMeans, bodyMeans}
 use Rattle.request_reader.proofs.ByCase.{says-no, says-yes}
-use Rattle.decisions.specs.Serving.{Serves, answerTo}
-use Rattle.queries.specs.Query.{replyTo}
+use Rattle.decisions.specs.Serving.{Serves, answerAt, answerTo}
 use Rattle.refusals.specs.Refusing.{Refuses}
 use Rattle.agent.specs.Call.{outcome, whyOf, Asks}
 
@@ -29,8 +29,21 @@ pub refusal-obeys : (f : Bytes) (w : Why) (buffer : Bytes) (n : ℕ) (buffer' : 
     → (free : ℕ) (t : List Slot) (table : Bytes) → outcome n buffer' table ≡ onBytes (kindNumber f) (obey (readRequest f) free t) table buffer
 refusal-obeys f w buffer n buffer' s e free t table = s .on-any free t table ∙ ap (λ (r : Read). onBytes (kindNumber f) (obey r free t) table buffer) e
 
+-- ---- kinds 2 to 9 take no free slot: which one a setup would take changes nothing
+pub slot-unused : (i j : ℕ) (t : List Slot) (q : Request) → 1 < numberOf q → act i t q ≡ act j t q
+unfolding act
+slot-unused i j t (setup h n) l = absurd (omega arith)
+slot-unused i j t (install h r) l = refl
+slot-unused i j t (retrieve h k) l = refl
+slot-unused i j t (rek h k) l = refl
+slot-unused i j t (enable h c) l = refl
+slot-unused i j t (remove h) l = refl
+slot-unused i j t (cancel h) l = refl
+slot-unused i j t (list limit q) l = refl
+slot-unused i j t (info h) l = refl
+
 -- ---- a request
-module _ (f : Bytes) (r : Asked) (b : Body) (a : Asks f r b) where
+module _ {f : Bytes} {r : Asked} {b : Body} (a : Asks f r b) where
   pub reads-as : readRequest f ≡ asks (bodyMeans f b r)
   reads-as = says-yes f r (a .answers) b (a .yes)
 
@@ -40,16 +53,17 @@ module _ (f : Bytes) (r : Asked) (b : Body) (a : Asks f r b) where
       let x : Reads f (bodyMeans f b r) = rw reads-as at (reads f) in
       ap numberOf (x .is) ∙ kind-number (kindNumber f) (x .kind) (x .number) f
 
-  module _ (table buffer table' buffer' : Bytes) where
-    pub serves-as : (q : Request) → bodyMeans f b r ≡ q → Serves (numberOf q) (answerTo table q) table buffer table' buffer'
-        → Serves (kindNumber f) (answerTo table (bodyMeans f b r)) table buffer table' buffer'
-    serves-as q e s = rw (← kind-is, e) s
+  -- the body x was served, and it is the one that the frame has
+  module _ (free : ℕ) {x : Body} (e : b ≡ x) {table buffer table' buffer' : Bytes} where
+    pub served-at : Serves (numberOf (bodyMeans f x r)) (answerAt free table (bodyMeans f x r)) table buffer table' buffer'
+        → Serves (kindNumber f) (answerAt free table (bodyMeans f b r)) table buffer table' buffer'
+    served-at s = rw (← kind-is, e) s
 
-    -- kinds 8 and 9, which leave the table as it is
-    pub reads-only : (q : Request) → bodyMeans f b r ≡ q → buffer' ≡ replyTo (numberOf q) q table buffer → table' ≡ table → tableAfter table (answerTo table q) ≡ table
-        → Serves (kindNumber f) (answerTo table (bodyMeans f b r)) table buffer table' buffer'
-    reads-only q e x y z = serves-as q e (record { table-is = y ∙ sym z; reply-is = x })
+    -- kinds 2 to 9
+    pub served : 1 < numberOf (bodyMeans f x r) → Serves (numberOf (bodyMeans f x r)) (answerTo table (bodyMeans f x r)) table buffer table' buffer'
+        → Serves (kindNumber f) (answerAt free table (bodyMeans f b r)) table buffer table' buffer'
+    served l s = served-at (rw (slot-unused free 0 (slotsOf table) (bodyMeans f x r) l) s)
 
-    pub obeys : Serves (kindNumber f) (answerTo table (bodyMeans f b r)) table buffer table' buffer'
-        → outcome 0 buffer' table' ≡ onBytes (kindNumber f) (obey (readRequest f) (lowestEmpty (slotsOf table)) (slotsOf table)) table buffer
-    obeys s = rw reads-as (ap₂ {C = Outcome} (λ (x y : Bytes). outcome 0 x y) (s .reply-is) (s .table-is))
+  pub obeys : (free : ℕ) {table buffer table' buffer' : Bytes} → Serves (kindNumber f) (answerAt free table (bodyMeans f b r)) table buffer table' buffer'
+      → outcome 0 buffer' table' ≡ onBytes (kindNumber f) (obey (readRequest f) free (slotsOf table)) table buffer
+  obeys free s = rw reads-as (ap₂ {C = Outcome} (λ (x y : Bytes). outcome 0 x y) (s .reply-is) (s .table-is))

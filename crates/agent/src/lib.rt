@@ -1,4 +1,11 @@
-// The card agent: "One call takes a request frame, a lent table of slots and a lent reply buffer."
+// The card agent: one call, with a request frame, a lent table of slots and a lent reply buffer (PROFILE 1.1).
+use decisions::decision::AWAITED;
+use decisions::decision::INSTALLED;
+use profile::number::DONE;
+use profile::number::REPLY_BUFFER_SHORT;
+use profile::number::TABLE_LENGTH;
+use profile::number::TABLE_NOT_WELL_FORMED;
+use profile::sizes::REPLY_ROOM;
 use request_reader::asked::Ask;
 use request_reader::asked::Asked;
 use request_reader::asked::Body;
@@ -10,7 +17,7 @@ ghost use Rattle.profile.specs.Frame.{kindNumber};
 ghost use Rattle.profile.specs.Request.{readRequest};
 ghost use Rattle.profile.specs.Agent.{agent, obey, onBytes, lowestEmpty};
 ghost use Rattle.request_reader.specs.Answer.{bodyMeans};
-ghost use Rattle.decisions.specs.Serving.{Ready, Serves, answerTo};
+ghost use Rattle.decisions.specs.Serving.{Ready, Serves, answerAt};
 ghost use Rattle.agent.specs.Call.{outcome, callOf, whyOf, Asks};
 
 // Why an answer is no request.
@@ -26,7 +33,7 @@ fn why_of(ask: Ask) -> Why
 // What a request does, kind by kind.
 fn serve(table: &mut [u8], frame: &[u8], reply: &mut [u8], asked: Asked, body: Body)
     requires { ⌜ Ready (now table) (now reply) × Asks (now frame) asked body ⌝ }
-    ensures { λ _. ⌜ Serves (kindNumber (now (frame .entry))) (answerTo (now (table .entry)) (bodyMeans (now (frame .entry)) body asked)) (now (table .entry)) (now (reply .entry)) (now (table .exit)) (now (reply .exit)) ⌝ }
+    ensures { λ _. ⌜ Serves (kindNumber (now (frame .entry))) (answerAt (lowestEmpty (slotsOf (now (table .entry)))) (now (table .entry)) (bodyMeans (now (frame .entry)) body asked)) (now (table .entry)) (now (reply .entry)) (now (table .exit)) (now (reply .exit)) ⌝ }
 {
     let h = asked.handle;
     let k = asked.new;
@@ -39,11 +46,11 @@ fn serve(table: &mut [u8], frame: &[u8], reply: &mut [u8], asked: Asked, body: B
             at,
             length,
         } => setups::install::install(table, reply, h, key, count, hashes, frame, at, length),
-        Body::Retrieve => rights::retrieve::retrieve(table, reply, h, k),
-        Body::Rek => rights::rek::rek(table, reply, h, k),
+        Body::Retrieve => rights::lend::lend(table, reply, h, k, 3),
+        Body::Rek => rights::lend::lend(table, reply, h, k, 4),
         Body::Enable { count } => rights::enable::enable(table, reply, h, count),
-        Body::Remove => rights::remove::remove(table, reply, h),
-        Body::Cancel => setups::cancel::cancel(table, reply, h),
+        Body::Remove => removals::clear(table, reply, h, 6, INSTALLED),
+        Body::Cancel => removals::clear(table, reply, h, 7, AWAITED),
         Body::List { limit, hashes, at } => queries::handle_list(
             table,
             reply,
@@ -67,22 +74,22 @@ fn answer(table: &mut [u8], frame: &[u8], reply: &mut [u8]) -> u16
         return refusals::refuse(frame, reply, why_of(ask));
     };
     serve(table, frame, reply, asked, body);
-    0
+    DONE
 }
 
-// "101 reply buffer under 4,279 bytes; 102 table length not 1 to 15 whole slots; 103 table not well formed; 104", in this
-// order and with no byte changed; otherwise 0, the reply and the new table. Whatever is lent: nothing is required of it.
+// PROFILE 4.1. 101, 102, 103 and 104, tested in this order and with no byte changed; otherwise 0, the reply and the new table.
+// Nothing is required of what is lent.
 pub fn call(table: &mut [u8], frame: &[u8], reply: &mut [u8]) -> u16
     ensures { λ r. ⌜ outcome r (now (reply .exit)) (now (table .exit)) ≡ agent (now (table .entry)) (callOf (now (frame .entry)) (now (reply .entry))) ⌝ }
 {
-    if reply.len() < 4279 {
-        return 101;
+    if reply.len() < REPLY_ROOM {
+        return REPLY_BUFFER_SHORT;
     }
     if !tables::part::whole_slots(table) {
-        return 102;
+        return TABLE_LENGTH;
     }
     if !tables::table::well_table(table) {
-        return 103;
+        return TABLE_NOT_WELL_FORMED;
     }
     answer(table, frame, reply)
 }

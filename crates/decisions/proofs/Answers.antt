@@ -16,16 +16,16 @@ pub record Denied (n : ℕ) (a : Answer) : Type 0 where
   pub numbered : code refusal ≡ n
   pub answer : a ≡ deny refusal
 
-module _ (kind : ℕ) (a : Answer) (T B B' : Bytes) where
-  -- "Every status but 0 leaves the table unchanged."
-  pub refused-serves : (n : ℕ) → Denied n a → B' ≡ over (frame kind n []) B → Serves kind a T B T B'
+module _ {kind : ℕ} {a : Answer} {T B B' : Bytes} where
+  -- PROFILE 4.2: a status other than 0 leaves the table as it was
+  pub refused-serves : {n : ℕ} → Denied n a → B' ≡ over (frame kind n []) B → Serves kind a T B T B'
   unfolding replyFrame
-  refused-serves n d e = rw (d .answer) (record { table-is = refl; reply-is = e ∙ ap (λ (m : ℕ). over (frame kind m []) B) (sym (d .numbered)) })
+  refused-serves d e = rw (d .answer) (record { table-is = refl; reply-is = e ∙ ap (λ (m : ℕ). over (frame kind m []) B) (sym (d .numbered)) })
 
-  pub done-serves : (g : Given) (u : List Slot) (T' : Bytes) → a ≡ done g u → T' ≡ tableOf u → B' ≡ over (frame kind 0 (writeGiven g)) B → Serves kind a T B T' B'
+  pub done-serves : {g : Given} {u : List Slot} {T' : Bytes} → a ≡ done g u → T' ≡ tableOf u → B' ≡ over (frame kind 0 (writeGiven g)) B → Serves kind a T B T' B'
   unfolding replyFrame
-  done-serves g u T' d t e = rw d (record { table-is = t; reply-is = e })
+  done-serves d t e = rw d (record { table-is = t; reply-is = e })
 
   -- done with nothing changed
   pub kept-serves : Bytes256 T → Ready T B → a ≡ done nothing (slotsOf T) → B' ≡ over (frame kind 0 []) B → Serves kind a T B T B'
-  kept-serves bytes r d e = done-serves nothing (slotsOf T) T d (sym (table-slots T bytes (r .whole) (r .well))) e
+  kept-serves bytes r d e = done-serves d (sym (table-slots T bytes (r .whole) (r .well))) e

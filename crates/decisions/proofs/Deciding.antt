@@ -2,13 +2,14 @@
 use Prim.Native.Nat.{ℕ, _*_}
 use mathlib.Core.Path.{_≡_, refl, sym, ap, _∙_}
 use mathlib.Core.List.{List}
-use mathlib.Core.Bool.{Bool, true, false}
+use mathlib.Core.Bool.{Bool, true, false, false≢true}
 use native.Mathlib.Omega.{arith}
 use lib.ListN.{drop}
 use Rattle.profile.specs.Bytes.{Bytes, part, Bytes256}
-use Rattle.profile.specs.Slot.{Entry, Slot}
-use Rattle.profile.specs.Table.{placeOf, slotsOf}
-use Rattle.profile.specs.Frame.{notFound, unexpected, twoRecords}
+use Rattle.profile.specs.Sizes.{slotSize}
+use Rattle.profile.specs.Slot.{Right, Entry, reserved, enabled, disabled, Slot}
+use Rattle.profile.specs.Table.{placeOf, handleOf, slotsOf}
+use Rattle.profile.specs.Frame.{notFound, duplicate, unexpected, twoRecords, code}
 use Rattle.profile.specs.Agent.{Answer, deny, onRecord}
 use Rattle.profile.proofs.Strings.{bytes-take, bytes-drop}
 use Rattle.slots.specs.declared.place.Place.{Place}
@@ -24,47 +25,55 @@ use Rattle.changes.specs.Change.{slotAt, Has}
 use Rattle.changes.proofs.Standing.{taken-place}
 use Rattle.decisions.specs.declared.decision.Takes.{Takes}
 use Rattle.decisions.specs.declared.decision.Decision.{Decision}
-use Rattle.decisions.specs.declared.decision.Decision.the-variants.{Refuse, Change}
-use Rattle.decisions.specs.Decisions.{takesPlace, decided, unlessUsed}
+use Rattle.decisions.specs.declared.decision.Decision.the-variants.{Refuse, Take}
+use Rattle.decisions.specs.Decisions.{takesPlace, awaited, lendable, decided, unlessUsed}
 use Rattle.decisions.specs.Serving.{Ready}
 use Rattle.decisions.proofs.Answers.{Denied}
 
 -- ---- a record that was found, by whether its place is one that the request takes
 module _ (w : Takes) (l : Lookup) (i : ℕ) (p : Place) (b : Bool) (found : l ≡ At i p) (e : b ≡ takesPlace w p) where
-  pub taken-decided : b ≡ true → Change i p ≡ decided w l
+  pub taken-decided : b ≡ true → Take i p ≡ decided w l
   unfolding decided
   taken-decided q = rw (found, ← e, q)
 
-  pub other-decided : b ≡ false → Refuse 6 ≡ decided w l
+  pub other-decided : b ≡ false → Refuse (code unexpected) ≡ decided w l
   unfolding decided
   other-decided q = rw (found, ← e, q)
 
 -- ---- refused
-change-refuse : {i n : ℕ} {p : Place} → Change i p ≡ Refuse n → ⊥
-change-refuse q = let z : _≡_ {A = ℕ} 0 1 = cc in omega arith
+take-refuse : {i n : ℕ} {p : Place} → Take i p ≡ Refuse n → ⊥
+take-refuse q = let z : _≡_ {A = ℕ} 0 1 = cc in omega arith
 
 refused-is : {m n : ℕ} → Refuse m ≡ Refuse n → m ≡ n
 refused-is q = cc
 
-placed-is : {i j : ℕ} {p o : Place} → Change i p ≡ Change j o → p ≡ o
+placed-is : {i j : ℕ} {p o : Place} → Take i p ≡ Take j o → p ≡ o
 placed-is q = cc
 
-changed-is : {i j : ℕ} {p o : Place} → Change i p ≡ Change j o → At i p ≡ At j o
-changed-is {i} {j} q =
+taken-is : {i j : ℕ} {p o : Place} → Take i p ≡ Take j o → At i p ≡ At j o
+taken-is {i} {j} q =
     let e : i ≡ j = cc in
     rw (e, placed-is q)
 
--- at the places that a request does not take, it is an unexpected one
+-- at the places that a request does not take, it is refused with 6
 abbrev pub Expects : Takes → (ℕ → Entry → Answer) → Type 0
 Expects w f = (i : ℕ) (e : Entry) → takesPlace w (placeOfEntry e) ≡ false → f i e ≡ deny unexpected
 
+pub expects : (w : Takes) (f : ℕ → Entry → Answer)
+    → (w .reserved ≡ false → (i n : ℕ) → f i (reserved n) ≡ deny unexpected)
+    → (w .enabled ≡ false → (i : ℕ) (r : Right) → f i (enabled r) ≡ deny unexpected)
+    → (w .disabled ≡ false → (i : ℕ) (r : Right) → f i (disabled r) ≡ deny unexpected) → Expects w f
+expects w f a b c i (reserved n) q = a q i n
+expects w f a b c i (enabled r) q = b q i r
+expects w f a b c i (disabled r) q = c q i r
+
 module _ (h : Bytes) (u : List Slot) (w : Takes) (f : ℕ → Entry → Answer) where
-  pub refuses : (n : ℕ) → Expects w f → decided w (lookUp h u) ≡ Refuse n → Denied n (onRecord u h f)
+  pub refuses : Expects w f → (d : Decision) → d ≡ decided w (lookUp h u) → (n : ℕ) → d ≡ Refuse n → Denied n (onRecord u h f)
   unfolding decided
-  refuses n x d = go (lookUp h u) refl d
+  refuses x d e n q = go (lookUp h u) refl (sym e ∙ q)
     where
       placed : (i : ℕ) (p : Place) (b : Bool) → lookUp h u ≡ At i p → takesPlace w p ≡ b → decided w (At i p) ≡ Refuse n → Denied n (onRecord u h f)
-      placed i p true l t q = absurd (change-refuse (rw t at q))
+      placed i p true l t q = absurd (take-refuse (rw t at q))
       placed i p false l t q =
           let s : Standing h u i p = at-stands h u i p l in
           record { refusal = unexpected; numbered = refused-is (rw t at q); answer = s .acted-on f ∙ x i (s .entry) (ap (takesPlace w) (s .placed) ∙ t) }
@@ -76,31 +85,31 @@ module _ (h : Bytes) (u : List Slot) (w : Takes) (f : ℕ → Entry → Answer) 
 
 -- ---- not refused: the record was found, at a place that the request takes
 module _ (h : Bytes) (u : List Slot) (w : Takes) (i : ℕ) (o : Place) where
-  pub stands : decided w (lookUp h u) ≡ Change i o → (lookUp h u ≡ At i o) × (takesPlace w o ≡ true)
+  pub stands : decided w (lookUp h u) ≡ Take i o → (lookUp h u ≡ At i o) × (takesPlace w o ≡ true)
   unfolding decided
   stands d = go (lookUp h u) refl d
     where
-      placed : (j : ℕ) (p : Place) (b : Bool) → lookUp h u ≡ At j p → takesPlace w p ≡ b → decided w (At j p) ≡ Change i o → (lookUp h u ≡ At i o) × (takesPlace w o ≡ true)
-      placed j p true l t q = let e : Change j p ≡ Change i o = rw t at q in (l ∙ changed-is e, ap (takesPlace w) (sym (placed-is e)) ∙ t)
-      placed j p false l t q = absurd (change-refuse (sym (rw t at q)))
+      placed : (j : ℕ) (p : Place) (b : Bool) → lookUp h u ≡ At j p → takesPlace w p ≡ b → decided w (At j p) ≡ Take i o → (lookUp h u ≡ At i o) × (takesPlace w o ≡ true)
+      placed j p true l t q = let e : Take j p ≡ Take i o = rw t at q in (l ∙ taken-is e, ap (takesPlace w) (sym (placed-is e)) ∙ t)
+      placed j p false l t q = absurd (take-refuse (sym (rw t at q)))
 
-      go : (l : Lookup) → lookUp h u ≡ l → decided w l ≡ Change i o → (lookUp h u ≡ At i o) × (takesPlace w o ≡ true)
-      go Absent l q = absurd (change-refuse (sym q))
-      go Two l q = absurd (change-refuse (sym q))
+      go : (l : Lookup) → lookUp h u ≡ l → decided w l ≡ Take i o → (lookUp h u ≡ At i o) × (takesPlace w o ≡ true)
+      go Absent l q = absurd (take-refuse (sym q))
+      go Two l q = absurd (take-refuse (sym q))
       go (At j p) l q = placed j p (takesPlace w p) l refl q
 
 -- the slot of a record that was found, by its bytes
 pub record Held (T h : Bytes) (i : ℕ) (p : Place) : Type 0 where
   pub has : Has T i
-  pub lent : part (4288 * i) 4288 T ≡ slotAt T i
+  pub lent : part (slotSize * i) slotSize T ≡ slotAt T i
   pub place-is : placeOf (slotAt T i) ≡ placeNumber p
-  pub handle-is : part 1 10 (slotAt T i) ≡ h
+  pub handle-is : handleOf (slotAt T i) ≡ h
   pub fits : RecordFits (slotAt T i)
   pub acted-on : (f : ℕ → Entry → Answer) → onRecord (slotsOf T) h f ≡ f i (entryOf p (slotAt T i))
 
 module _ (T B h : Bytes) (bytes : Bytes256 T) (r : Ready T B) (i : ℕ) where
   abbrev s : Bytes
-  s = part (4288 * i) 4288 T
+  s = part (slotSize * i) slotSize T
 
   pub held : (p : Place) → lookUp h (slotsOf T) ≡ At i p → Held T h i p
   held p l = record {
@@ -122,7 +131,7 @@ module _ (T B h : Bytes) (bytes : Bytes256 T) (r : Ready T B) (i : ℕ) where
       not-empty z = empty-taken h (entryOf p s) (sym (unpack-empty s z) ∙ a .unpacked)
 
       s-bytes : Bytes256 s
-      s-bytes = bytes-take 4288 (drop (4288 * i) T) (bytes-drop (4288 * i) T bytes)
+      s-bytes = bytes-take slotSize (drop (slotSize * i) T) (bytes-drop (slotSize * i) T bytes)
 
       number : (p : Place) → lookUp h (slotsOf T) ≡ At i p → placeOf s ≡ placeNumber p
       number Empty l = absurd (none-empty T h i l)
@@ -130,23 +139,42 @@ module _ (T B h : Bytes) (bytes : Bytes256 T) (r : Ready T B) (i : ℕ) where
       number Enabled l = taken-place s s-bytes h (entryOf Enabled s) (record-at T h i Enabled l .unpacked)
       number Disabled l = taken-place s s-bytes h (entryOf Disabled s) (record-at T h i Disabled l .unpacked)
 
--- whatever places the request takes, the slot to change is one of the table's
-pub has-slot : (T B h : Bytes) (r : Ready T B) (w : Takes) (d : Decision) → d ≡ decided w (lookUp h (slotsOf T)) → (i : ℕ) (o : Place) → d ≡ Change i o → Has T i
-has-slot T B h r w d e i o q =
-    record { whole = r .whole; well = r .well; inside = record-at T h i o (stands h (slotsOf T) w i o (sym e ∙ q) .0) .below }
+-- ---- the places that a request takes, where there is one only
+only-reserved : (p : Place) → takesPlace awaited p ≡ true → p ≡ Reserved
+only-reserved Empty q = absurd (false≢true q)
+only-reserved Reserved q = refl
+only-reserved Enabled q = absurd (false≢true q)
+only-reserved Disabled q = absurd (false≢true q)
+
+only-enabled : (p : Place) → takesPlace lendable p ≡ true → p ≡ Enabled
+only-enabled Empty q = absurd (false≢true q)
+only-enabled Reserved q = absurd (false≢true q)
+only-enabled Enabled q = refl
+only-enabled Disabled q = absurd (false≢true q)
+
+-- ---- not refused: the record in slot i, at a place that the request takes
+module _ (T B h : Bytes) (bytes : Bytes256 T) (r : Ready T B) (d : Decision) where
+  pub chosen : (w : Takes) → d ≡ decided w (lookUp h (slotsOf T)) → (i : ℕ) (o : Place) → d ≡ Take i o → Held T h i o × (takesPlace w o ≡ true)
+  chosen w e i o q = let s = stands h (slotsOf T) w i o (sym e ∙ q) in (held T B h bytes r i o (s .0), s .1)
+
+  pub chosen-reserved : d ≡ decided awaited (lookUp h (slotsOf T)) → (i : ℕ) (o : Place) → d ≡ Take i o → Held T h i Reserved
+  chosen-reserved e i o q = let s = chosen awaited e i o q in rw (only-reserved o (s .1)) at (s .0)
+
+  pub chosen-enabled : d ≡ decided lendable (lookUp h (slotsOf T)) → (i : ℕ) (o : Place) → d ≡ Take i o → Held T h i Enabled
+  chosen-enabled e i o q = let s = chosen lendable e i o q in rw (only-enabled o (s .1)) at (s .0)
 
 -- what is known of a slot's bytes is known of those lent
 pub fits-lent : (x s : Bytes) → x ≡ s → RecordFits s → RecordFits x
 fits-lent x s e f = rw e f
 
--- ---- lending: "new handle in any non-empty slot, its own included, 5"
+-- ---- lending: 5 where the new handle is in use
 module _ (used : Bool) (d x : Decision) (e : x ≡ d) where
   pub refused-before : (n : ℕ) → x ≡ Refuse n → x ≡ unlessUsed used d
   unfolding unlessUsed
   refused-before n q = rw (← e, q)
 
-  module _ (i : ℕ) (p : Place) (q : x ≡ Change i p) where
-    pub used-refused : used ≡ true → Refuse 5 ≡ unlessUsed used d
+  module _ (i : ℕ) (p : Place) (q : x ≡ Take i p) where
+    pub used-refused : used ≡ true → Refuse (code duplicate) ≡ unlessUsed used d
     unfolding unlessUsed
     used-refused y = rw (← e, q, y)
 
@@ -156,20 +184,21 @@ module _ (used : Bool) (d x : Decision) (e : x ≡ d) where
 
 module _ (used : Bool) (d : Decision) where
   -- what was decided before, and whether the new handle is free
-  pub lending-refused : {P : Type 0} (n : ℕ) → unlessUsed used d ≡ Refuse n → (d ≡ Refuse n → P) → ((i : ℕ) (o : Place) → d ≡ Change i o → used ≡ true → 5 ≡ n → P) → P
+  pub lending-refused : {P : Type 0} (n : ℕ) → unlessUsed used d ≡ Refuse n → (d ≡ Refuse n → P)
+      → ((i : ℕ) (o : Place) → d ≡ Take i o → used ≡ true → code duplicate ≡ n → P) → P
   unfolding unlessUsed
   lending-refused {P} n e before after = go used d refl refl e
     where
       go : (b : Bool) (x : Decision) → used ≡ b → d ≡ x → unlessUsed b x ≡ Refuse n → P
       go b (Refuse m) p q e = before (q ∙ e)
-      go true (Change i o) p q e = after i o q p (refused-is e)
-      go false (Change i o) p q e = absurd (change-refuse e)
+      go true (Take i o) p q e = after i o q p (refused-is e)
+      go false (Take i o) p q e = absurd (take-refuse e)
 
-  pub lending-decided : (i : ℕ) (o : Place) → unlessUsed used d ≡ Change i o → (used ≡ false) × (d ≡ Change i o)
+  pub lending-decided : (i : ℕ) (o : Place) → unlessUsed used d ≡ Take i o → (used ≡ false) × (d ≡ Take i o)
   unfolding unlessUsed
   lending-decided i o e = go used d refl refl e
     where
-      go : (b : Bool) (x : Decision) → used ≡ b → d ≡ x → unlessUsed b x ≡ Change i o → (used ≡ false) × (d ≡ Change i o)
-      go b (Refuse n) p q e = absurd (change-refuse (sym e))
-      go true (Change j r) p q e = absurd (change-refuse (sym e))
-      go false (Change j r) p q e = (p, q ∙ e)
+      go : (b : Bool) (x : Decision) → used ≡ b → d ≡ x → unlessUsed b x ≡ Take i o → (used ≡ false) × (d ≡ Take i o)
+      go b (Refuse n) p q e = absurd (take-refuse (sym e))
+      go true (Take j r) p q e = absurd (take-refuse (sym e))
+      go false (Take j r) p q e = (p, q ∙ e)

@@ -1,4 +1,8 @@
 // The record under a request's handle, and whether the request takes a record of its place. Nothing here writes.
+use profile::sizes::HANDLE_BYTES;
+use profile::status::HANDLE_NOT_FOUND;
+use profile::status::TWO_RECORDS;
+use profile::status::UNEXPECTED_REQUEST;
 use slots::place::Place;
 use tables::lookup::Lookup;
 ghost use mathlib.Core.Path.{_≡_};
@@ -6,10 +10,10 @@ ghost use Rattle.profile.specs.Table.{slotsOf};
 ghost use Rattle.tables.specs.LookUp.{lookUp};
 ghost use Rattle.decisions.specs.Decisions.{takesPlace, decided};
 
-// Refused with a status; or the slot to change, and the place of its record.
+// Refused with a status; or taken: the slot of the record, and the record's place.
 pub enum Decision {
     Refuse(u8),
-    Change(usize, Place),
+    Take(usize, Place),
 }
 
 // Of which places a kind of request takes a record.
@@ -19,28 +23,28 @@ pub struct Takes {
     pub disabled: bool,
 }
 
-// 2: "record not reserved, 6"; 7: "not reserved, 6".
+// Kinds 2 and 7 take a reserved record (PROFILE 5.2, 5.7).
 pub const AWAITED: Takes = Takes {
     reserved: true,
     enabled: false,
     disabled: false,
 };
 
-// 3, 4: "not enabled, 6".
+// Kinds 3, 4 and 9 take an enabled one (PROFILE 5.3, 5.4, 5.9).
 pub const LENDABLE: Takes = Takes {
     reserved: false,
     enabled: true,
     disabled: false,
 };
 
-// 5, 6: "reserved, 6".
+// Kinds 5 and 6 take one that is installed, enabled or disabled (PROFILE 5.5, 5.6).
 pub const INSTALLED: Takes = Takes {
     reserved: false,
     enabled: true,
     disabled: true,
 };
 
-// "all but empty have a handle": no record is empty.
+// Is the place one that is taken? No record is empty: only an empty slot has no handle (PROFILE 2.3).
 pub fn takes_place(takes: Takes, place: Place) -> bool
     ensures { λ r. ⌜ r ≡ takesPlace takes place ⌝ }
 {
@@ -52,17 +56,17 @@ pub fn takes_place(takes: Takes, place: Place) -> bool
     }
 }
 
-// 8, "tested just before 4"; 4; then 6, for a record of a place that the request does not take.
-pub fn slot_under(table: &[u8], h: [u8; 10], takes: Takes) -> Decision
+// PROFILE 4.2. Status 8 for a handle in two slots, 4 for one in none, and 6 for a record of a place that is not taken.
+pub fn slot_under(table: &[u8], h: [u8; HANDLE_BYTES], takes: Takes) -> Decision
     ensures { λ r. ⌜ r ≡ decided takes (lookUp h (slotsOf (now (table .entry)))) ⌝ }
 {
     match tables::lookup::look_up(table, h) {
-        Lookup::Absent => Decision::Refuse(4),
-        Lookup::Two => Decision::Refuse(8),
+        Lookup::Absent => Decision::Refuse(HANDLE_NOT_FOUND),
+        Lookup::Two => Decision::Refuse(TWO_RECORDS),
         Lookup::At(i, place) => if takes_place(takes, place) {
-            Decision::Change(i, place)
+            Decision::Take(i, place)
         } else {
-            Decision::Refuse(6)
+            Decision::Refuse(UNEXPECTED_REQUEST)
         },
     }
 }

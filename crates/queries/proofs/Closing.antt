@@ -10,6 +10,7 @@ use lib.ListN.{length, take}
 use lib.Seq.{take-all, length-take-le}
 use borrow.Author.Tests.{lt-ltb, le-ltb}
 use Rattle.profile.specs.Bytes.{Bytes, over}
+use Rattle.profile.specs.Sizes.{mostSlots, handleSize}
 use Rattle.profile.specs.Table.{slotsOf}
 use Rattle.profile.specs.Request.{list}
 use Rattle.profile.specs.Agent.{listed, fitting, act}
@@ -17,10 +18,10 @@ use Rattle.list_replies.specs.Listed.{holding, listStart}
 use Rattle.list_replies.proofs.Growing.{list-closed}
 use Rattle.decisions.specs.Serving.{Ready}
 use Rattle.queries.specs.Query.{replyTo, mostOf}
-use Rattle.queries.proofs.ListedSlots.{each-take, each-10, few-15}
+use Rattle.queries.proofs.ListedSlots.{each-take, each-handle, few-listed-in}
 
--- ---- how many of at most 15 handles fit
-module _ (limit n : ℕ) (few : n ≤ 15) where
+-- ---- how many of at most as many handles as slots fit
+module _ (limit n : ℕ) (few : n ≤ mostSlots) where
   pub all-fit : n ≤ mostOf limit → fitting limit n ≡ n
   all-fit h = go (eqb limit 0) refl
     where
@@ -40,18 +41,18 @@ module _ (t b : Bytes) (ready : Ready t b) (limit : ℕ) (q : List Bytes) where
   abbrev hs : List Bytes
   hs = listed q (slotsOf t)
 
-  few : length hs ≤ 15
-  few = few-15 t q (ready .whole) (ready .well)
+  few : length hs ≤ mostSlots
+  few = few-listed-in t q (ready .whole) (ready .well)
 
-  pub found-15 : (found : ℕ) → found ≡ length hs → found ≤ 15
-  found-15 found e = omega (arith, few)
+  pub few-found : (found : ℕ) → found ≡ length hs → found ≤ mostSlots
+  few-found found e = omega (arith, few)
 
   -- n handles of the list fit and are in the buffer, and the byte in front of them says whether the list has more
   closed : (n : ℕ) (more : Bool) → n ≤ length hs → fitting limit (length hs) ≡ n → ltb n (length hs) ≡ more
       → {d r : Bytes} → d ≡ holding (take n hs) b → r ≡ over (listStart n more) d → r ≡ replyTo 8 (list limit q) t b
   unfolding act
   closed n more some fits says held start =
-      list-closed (take n hs) n b (each-take 10 n hs (each-10 t q (ready .whole) (ready .well))) (length-take-le n hs some) (omega (arith, few, ready .room)) more (slotsOf t) held start
+      list-closed (take n hs) n b (each-take handleSize n hs (each-handle t q (ready .whole) (ready .well))) (length-take-le n hs some) (omega (arith, few, ready .room)) more (slotsOf t) held start
       ∙ rw (fits, says)
 
   -- the number of handles found, the number that fits, the buffer with the handles, and the buffer closed

@@ -9,7 +9,8 @@ use lib.ListN.{length, take, length-append}
 use lib.Seq.{take-nil, take-all, take-append-le}
 use borrow.Author.Tests.{ltb-true, ltb-false}
 use Rattle.profile.specs.Bytes.{Bytes, if_then_else_, part, Each}
-use Rattle.profile.specs.Table.{hashCountOf, unpack, slotCount, slotsOf}
+use Rattle.profile.specs.Sizes.{slotSize, handleSize, mostHashes, handleAt}
+use Rattle.profile.specs.Table.{hashCountOf, handleOf, unpack, slotCount, slotsOf}
 use Rattle.profile.specs.Agent.{listedSlot, listed}
 use Rattle.profile.proofs.Logic.{if-cases}
 use Rattle.profile.proofs.Strings.{length-part}
@@ -24,15 +25,15 @@ use Rattle.decisions.specs.Serving.{Ready}
 use Rattle.queries.proofs.ListedSlots.{listed-next, listed-whole, each-passed}
 
 -- ---- a slot of a well-formed table
-pub few-in-slot : (t b : Bytes) → Ready t b → (i : ℕ) → i < slotCount t → (s : Bytes) → s ≡ part (4288 * i) 4288 t → hashCountOf s ≤ 8
+pub few-in-slot : (t b : Bytes) → Ready t b → (i : ℕ) → i < slotCount t → (s : Bytes) → s ≡ part (slotSize * i) slotSize t → hashCountOf s ≤ mostHashes
 few-in-slot t b ready i h s e = few-hashes s (rw e (slot-well t i (ready .well) h))
 
 -- ---- one handle more, where `most` fit
-pub hold-next : (hs : List Bytes) (k : ℕ) (h b : Bytes) (most : ℕ) → Each 10 hs → length hs ≡ k → length h ≡ 10 → 15 + 10 * k ≤ length b
-    → (if ltb k most then overAt (5 + 10 * k) h (holding (take most hs) b) else holding (take most hs) b) ≡ holding (take most (hs ++ (h ∷ []))) b
+pub hold-next : (hs : List Bytes) (k : ℕ) (h b : Bytes) (most : ℕ) → Each handleSize hs → length hs ≡ k → length h ≡ handleSize → 15 + handleSize * k ≤ length b
+    → (if ltb k most then overAt (5 + handleSize * k) h (holding (take most hs) b) else holding (take most hs) b) ≡ holding (take most (hs ++ (h ∷ []))) b
 hold-next hs k h b most each count size fits = if-cases (λ (d : Bytes). d ≡ holding (take most (hs ++ (h ∷ []))) b) (ltb k most) put left
   where
-    put : ltb k most ≡ true → overAt (5 + 10 * k) h (holding (take most hs) b) ≡ holding (take most (hs ++ (h ∷ []))) b
+    put : ltb k most ≡ true → overAt (5 + handleSize * k) h (holding (take most hs) b) ≡ holding (take most (hs ++ (h ∷ []))) b
     put p =
         let below : k < most = ltb-true k most p in
         let longer : length (hs ++ (h ∷ [])) ≤ most = omega (arith, length-append hs (h ∷ [])) in
@@ -58,10 +59,10 @@ module _ (t b : Bytes) (q : List Bytes) (most : ℕ) where
   passed-all i found d h p = rw (← listed-whole t q i h) (p .counted, p .held)
 
   module _ (ready : Ready t b) (i found : ℕ) (d : Bytes) (h : i < slotCount t) (p : Passed t b q most i found d) where
-    pub room-next : 15 + 10 * found ≤ length d
+    pub room-next : 15 + handleSize * found ≤ length d
     room-next = omega (arith, few-slots t (ready .whole) (ready .well), length-slots t, p .few, p .sized, ready .room)
 
-    module _ (s : Bytes) (e : s ≡ part (4288 * i) 4288 t) where
+    module _ (s : Bytes) (e : s ≡ part (slotSize * i) slotSize t) where
       -- a slot that the list passes over
       pub pass-other : listedSlot q (unpack s) ≡ [] → Passed t b q most (i + 1) found d
       pass-other none =
@@ -69,17 +70,18 @@ module _ (t b : Bytes) (q : List Bytes) (most : ℕ) where
           record { few = omega (arith, p .few); sized = p .sized; counted = rw same-list (p .counted); held = rw same-list (p .held) }
 
       -- a slot whose handle is in the list
-      pub pass-listed : length s ≡ 4288 → listedSlot q (unpack s) ≡ part 1 10 s ∷ []
-          → (d' : Bytes) → length d' ≡ length d → d' ≡ (if ltb found most then overAt (5 + 10 * found) (part 1 10 s) d else d)
+      pub pass-listed : length s ≡ slotSize → listedSlot q (unpack s) ≡ handleOf s ∷ []
+          → (d' : Bytes) → length d' ≡ length d → d' ≡ (if ltb found most then overAt (5 + handleSize * found) (handleOf s) d else d)
           → Passed t b q most (i + 1) (found + 1) d'
       pass-listed len-s one d' len-d put =
           let hs : List Bytes = listed q (take i (slotsOf t)) in
-          let next : listed q (take (i + 1) (slotsOf t)) ≡ hs ++ (part 1 10 s ∷ []) = listed-next t q i h s e ∙ rw one in
+          let next : listed q (take (i + 1) (slotsOf t)) ≡ hs ++ (handleOf s ∷ []) = listed-next t q i h s e ∙ rw one in
+          let each : Each handleSize hs = each-passed t q (ready .whole) (ready .well) i in
+          let size : length (handleOf s) ≡ handleSize = length-part handleAt handleSize s (omega arith) in
           record {
             few = omega (arith, p .few);
             sized = len-d ∙ p .sized;
-            counted = rw next (omega (arith, p .counted, length-append hs (part 1 10 s ∷ [])));
+            counted = rw next (omega (arith, p .counted, length-append hs (handleOf s ∷ [])));
             held =
-                rw (next, ← hold-next hs found (part 1 10 s) b most (each-passed t q (ready .whole) (ready .well) i) (sym (p .counted)) (length-part 1 10 s (omega arith)) (rw (p .sized) at room-next), ← p .held)
-                put;
+                rw (next, ← hold-next hs found (handleOf s) b most each (sym (p .counted)) size (rw (p .sized) at room-next), ← p .held) put;
           }

@@ -1,59 +1,41 @@
--- Kind 9: the agent's reply, for each answer of the look-up. Assumes nothing.
-use Prim.Native.Nat.{ℕ, _*_, _<_, _≤_}
+-- Kind 9: the agent's reply, by what was decided. Assumes nothing.
+use Prim.Native.Nat.{ℕ, _*_}
 use mathlib.Core.Path.{_≡_, refl, sym, _∙_}
 use mathlib.Core.List.{[]}
-use Rattle.profile.specs.Bytes.{Bytes, part, word, over}
-use Rattle.profile.specs.Table.{rightOf, slotCount, slotsOf}
-use Rattle.profile.specs.Frame.{Refusal, notFound, unexpected, twoRecords, code, frame}
+use mathlib.Core.Bool.{true≢false}
+use Rattle.profile.specs.Bytes.{Bytes, part, over}
+use Rattle.profile.specs.Sizes.{slotSize}
+use Rattle.profile.specs.Slot.{Entry}
+use Rattle.profile.specs.Table.{rightOf, slotsOf, tableOf}
+use Rattle.profile.specs.Frame.{frame}
 use Rattle.profile.specs.Request.{info}
-use Rattle.profile.specs.Agent.{Answer, deny, done, infoAt, onRecord, act, replyFrame, writeGiven}
+use Rattle.profile.specs.Agent.{Answer, infoAt, act, writeGiven}
 use Rattle.reply_writer.specs.Written.{infoOf}
-use Rattle.reply_writer.proofs.Frames.{deny-frame, done-frame}
-use Rattle.slots.specs.declared.place.Place.{Place}
-use Rattle.slots.specs.declared.place.Place.the-variants.{Empty, Reserved, Enabled, Disabled}
-use Rattle.tables.specs.declared.lookup.Lookup.the-variants.{Absent, Two, At}
+use Rattle.slots.specs.declared.place.Place.the-variants.{Enabled}
 use Rattle.tables.specs.LookUp.{lookUp}
-use Rattle.tables.proofs.Records.{entryOf, absent-denied, two-denied, record-at, record-fits}
-use Rattle.decisions.specs.Serving.{Ready}
+use Rattle.decisions.specs.declared.decision.Decision.{Decision}
+use Rattle.decisions.specs.declared.decision.Decision.the-variants.{Refuse}
+use Rattle.decisions.specs.Decisions.{lendable, decided}
+use Rattle.decisions.specs.Serving.{Serves, answerTo}
+use Rattle.decisions.proofs.Answers.{refused-serves, done-serves}
+use Rattle.decisions.proofs.Deciding.{Expects, expects, refuses, Held}
 use Rattle.queries.specs.Query.{replyTo}
 
 module _ (t b h : Bytes) where
-  -- whatever the answer is
-  answered : (a : Answer) → onRecord (slotsOf t) h (infoAt (slotsOf t)) ≡ a → replyTo 9 (info h) t b ≡ over (replyFrame 9 a) b
+  abbrev told : ℕ → Entry → Answer
+  told = infoAt (slotsOf t)
+
+  pub info-refused : (d : Decision) → d ≡ decided lendable (lookUp h (slotsOf t)) → (n : ℕ) → d ≡ Refuse n
+      → (r : Bytes) → r ≡ over (frame 9 n []) b → r ≡ replyTo 9 (info h) t b
   unfolding act
-  answered a e = rw e
+  info-refused d e n q r x =
+      let expected : Expects lendable told = expects lendable told (λ _ i n. refl) (λ q. absurd (true≢false q)) (λ _ i r. refl) in
+      let s : Serves 9 (answerTo t (info h)) t b t r = refused-serves (refuses h (slotsOf t) lendable told expected d e n q) x in
+      s .reply-is
 
-  denied : (x : Refusal) → onRecord (slotsOf t) h (infoAt (slotsOf t)) ≡ deny x → replyTo 9 (info h) t b ≡ over (frame 9 (code x) []) b
-  denied x e = answered (deny x) e ∙ rw (deny-frame 9 x)
-
-  pub info-absent : lookUp h (slotsOf t) ≡ Absent → (r : Bytes) → r ≡ over (frame 9 4 []) b → r ≡ replyTo 9 (info h) t b
-  info-absent l r e = e ∙ sym (denied notFound (absent-denied h (slotsOf t) l (infoAt (slotsOf t))))
-
-  pub info-two : lookUp h (slotsOf t) ≡ Two → (r : Bytes) → r ≡ over (frame 9 8 []) b → r ≡ replyTo 9 (info h) t b
-  info-two l r e = e ∙ sym (denied twoRecords (two-denied h (slotsOf t) l (infoAt (slotsOf t))))
-
-  -- slot i has the handle, its record in the place p
-  module _ (i : ℕ) (p : Place) where
-    pub info-enabled : p ≡ Enabled → lookUp h (slotsOf t) ≡ At i p → (s : Bytes) → s ≡ part (4288 * i) 4288 t
-        → (r : Bytes) → r ≡ over (frame 9 0 (writeGiven (infoOf (rightOf s)))) b → r ≡ replyTo 9 (info h) t b
-    info-enabled q l s es r e =
-        let x : Bytes = part (4288 * i) 4288 t in
-        let found : onRecord (slotsOf t) h (infoAt (slotsOf t)) ≡ done (infoOf (rightOf x)) (slotsOf t) = record-at t h i Enabled (rw q at l) .acted-on (infoAt (slotsOf t)) in
-        e ∙ rw es (sym (answered (done (infoOf (rightOf x)) (slotsOf t)) found ∙ rw (done-frame 9 (infoOf (rightOf x)) (slotsOf t))))
-
-    -- "not enabled, 6"
-    pub info-other : (p ≡ Enabled → ⊥) → lookUp h (slotsOf t) ≡ At i p → (r : Bytes) → r ≡ over (frame 9 6 []) b → r ≡ replyTo 9 (info h) t b
-    info-other other l r e = e ∙ sym (denied unexpected (record-at t h i p l .acted-on (infoAt (slotsOf t)) ∙ refused p other))
-      where
-        refused : (p : Place) → (p ≡ Enabled → ⊥) → infoAt (slotsOf t) i (entryOf p (part (4288 * i) 4288 t)) ≡ deny unexpected
-        refused Empty f = refl
-        refused Reserved f = refl
-        refused Enabled f = absurd (f refl)
-        refused Disabled f = refl
-
-    -- the record's slot is there to be lent, and its payload fits a reply
-    pub info-below : lookUp h (slotsOf t) ≡ At i p → i < slotCount t
-    info-below l = record-at t h i p l .below
-
-    pub info-short : Ready t b → lookUp h (slotsOf t) ≡ At i p → (s : Bytes) → s ≡ part (4288 * i) 4288 t → word 29 s ≤ 4096
-    info-short ready l s es = rw es (record-fits t h i (entryOf p (part (4288 * i) 4288 t)) (ready .well) (record-at t h i p l) .long .1)
+  pub info-done : (i : ℕ) → Held t h i Enabled → (s : Bytes) → s ≡ part (slotSize * i) slotSize t
+      → (r : Bytes) → r ≡ over (frame 9 0 (writeGiven (infoOf (rightOf s)))) b → r ≡ replyTo 9 (info h) t b
+  unfolding act
+  info-done i w s es r x =
+      let d : Serves 9 (answerTo t (info h)) t b (tableOf (slotsOf t)) r = done-serves {g = infoOf (rightOf s)} (w .acted-on told ∙ rw (← w .lent, ← es)) refl x in
+      d .reply-is

@@ -8,6 +8,7 @@ use native.Mathlib.Omega.{arith}
 use lib.ListN.{length, getD, take, length-append}
 use lib.Seq.{take-suc, take-all}
 use Rattle.profile.specs.Bytes.{Bytes, part, Each}
+use Rattle.profile.specs.Sizes.{slotSize, mostSlots, handleSize}
 use Rattle.profile.specs.Slot.{reserved, enabled, disabled, Slot, empty, taken, SlotFits, TableFits}
 use Rattle.profile.specs.Table.{unpack, slotCount, slotsOf, wholeSlots, wellTable}
 use Rattle.profile.specs.Agent.{asked, listedSlot, listed}
@@ -33,15 +34,15 @@ fits-take (suc n) (s ∷ t) f = (f .0, fits-take n t (f .1))
 
 -- ---- the list over any slots
 module _ (q : List Bytes) where
-  slot-each : (s : Slot) → SlotFits s → Each 10 (listedSlot q s)
+  slot-each : (s : Slot) → SlotFits s → Each handleSize (listedSlot q s)
   slot-each empty f = tt
   slot-each (taken h (reserved n)) f = tt
-  slot-each (taken h (enabled r)) f = if-both (Each 10) (asked q r) (f .0, tt) tt
+  slot-each (taken h (enabled r)) f = if-both (Each handleSize) (asked q r) (f .0, tt) tt
   slot-each (taken h (disabled r)) f = tt
 
-  each-listed : (t : List Slot) → TableFits t → Each 10 (listed q t)
+  each-listed : (t : List Slot) → TableFits t → Each handleSize (listed q t)
   each-listed [] f = tt
-  each-listed (s ∷ t) f = each-append 10 (listedSlot q s) (listed q t) (slot-each s (f .0)) (each-listed t (f .1))
+  each-listed (s ∷ t) f = each-append handleSize (listedSlot q s) (listed q t) (slot-each s (f .0)) (each-listed t (f .1))
 
   slot-once : (s : Slot) → length (listedSlot q s) ≤ 1
   slot-once empty = omega arith
@@ -59,7 +60,7 @@ module _ (q : List Bytes) where
 
 -- ---- over the slots of a table, of which i are passed
 module _ (t : Bytes) (q : List Bytes) where
-  pub listed-next : (i : ℕ) → i < slotCount t → (s : Bytes) → s ≡ part (4288 * i) 4288 t
+  pub listed-next : (i : ℕ) → i < slotCount t → (s : Bytes) → s ≡ part (slotSize * i) slotSize t
       → listed q (take (i + 1) (slotsOf t)) ≡ listed q (take i (slotsOf t)) ++ listedSlot q (unpack s)
   listed-next i h s e =
       let below : i < length (slotsOf t) = rw (length-slots t) h in
@@ -69,11 +70,11 @@ module _ (t : Bytes) (q : List Bytes) where
   listed-whole i h = ap (listed q) (take-all i (slotsOf t) (rw (length-slots t) h))
 
   module _ (whole : wholeSlots t ≡ true) (well : wellTable t ≡ true) where
-    pub each-10 : Each 10 (listed q (slotsOf t))
-    each-10 = each-listed q (slotsOf t) (table-fits t whole well)
+    pub each-handle : Each handleSize (listed q (slotsOf t))
+    each-handle = each-listed q (slotsOf t) (table-fits t whole well)
 
-    pub each-passed : (i : ℕ) → Each 10 (listed q (take i (slotsOf t)))
+    pub each-passed : (i : ℕ) → Each handleSize (listed q (take i (slotsOf t)))
     each-passed i = each-listed q (take i (slotsOf t)) (fits-take i (slotsOf t) (table-fits t whole well))
 
-    pub few-15 : length (listed q (slotsOf t)) ≤ 15
-    few-15 = omega (arith, few-listed q (slotsOf t), few-slots t whole well)
+    pub few-listed-in : length (listed q (slotsOf t)) ≤ mostSlots
+    few-listed-in = omega (arith, few-listed q (slotsOf t), few-slots t whole well)

@@ -11,13 +11,14 @@ use Rattle.profile.specs.Request.{list, info}
 use Rattle.profile.specs.Agent.{Answer, Found, absent, one, find, times, whenFound, infoAt, act, tableAfter}
 use Rattle.profile.proofs.Logic.{if-both}
 use Rattle.profile.proofs.Tables.{table-slots}
+use Rattle.decisions.specs.Serving.{answerTo}
 
-module _ (table : Bytes) (bytes : Bytes256 table) (whole : wholeSlots table ≡ true) (well : wellTable table ≡ true) (free : ℕ) where
-  pub list-keeps : (limit : ℕ) (q : List Bytes) → tableAfter table (act free (slotsOf table) (list limit q)) ≡ table
+module _ (table : Bytes) (bytes : Bytes256 table) (whole : wholeSlots table ≡ true) (well : wellTable table ≡ true) where
+  pub list-keeps : (limit : ℕ) (q : List Bytes) → tableAfter table (answerTo table (list limit q)) ≡ table
   unfolding act
   list-keeps limit q = table-slots table bytes whole well
 
-  pub info-keeps : (h : Bytes) → tableAfter table (act free (slotsOf table) (info h)) ≡ table
+  pub info-keeps : (h : Bytes) → tableAfter table (answerTo table (info h)) ≡ table
   unfolding act
   info-keeps h = if-both (λ (a : Answer). tableAfter table a ≡ table) (ltb 1 (times h (slotsOf table))) refl (by-found (find h (slotsOf table)))
     where

@@ -2,6 +2,7 @@
 use Prim.Native.Nat.{ℕ, _/_}
 use lib.Dec.{eqb}
 use Rattle.profile.specs.Bytes.{Bytes, if_then_else_}
+use Rattle.profile.specs.Sizes.{mostSlots, handleSize}
 use Rattle.profile.specs.Request.{Request}
 use Rattle.profile.specs.Agent.{replied}
 use Rattle.decisions.specs.Serving.{answerTo}
@@ -10,6 +11,6 @@ use Rattle.decisions.specs.Serving.{answerTo}
 abbrev pub replyTo : ℕ → Request → Bytes → Bytes → Bytes
 replyTo kind q table buffer = replied kind (answerTo table q) table buffer .reply
 
--- how many handles a limit leaves room for: "Limit 0 is none", and a table has 15 at the most; "otherwise the first whole handles that fit in limit bytes"
+-- PROFILE 5.8: how many handles a limit lets through. With 0 it is none, and a table has a handle for each slot at the most
 abbrev pub mostOf : ℕ → ℕ
-mostOf limit = if eqb limit 0 then 15 else limit / 10
+mostOf limit = if eqb limit 0 then mostSlots else limit / handleSize

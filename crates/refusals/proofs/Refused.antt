@@ -6,6 +6,7 @@ use mathlib.Core.Bool.{_&&_, not}
 use lib.Dec.{leb, eqb}
 use lib.ListN.{length}
 use Rattle.profile.specs.Bytes.{Bytes, if_then_else_, word, over}
+use Rattle.profile.specs.Sizes.{notAFrame}
 use Rattle.profile.specs.Frame.{kindNumber, frame, isFrame, versionHolds, kindOf, Refusal, parameter, code}
 use Rattle.profile.specs.Request.{Read, asks, refused, noFrame, zeroBits, readKind, readRequest}
 use Rattle.profile.specs.Agent.{replyFrame}
@@ -36,10 +37,10 @@ long-read f =
 pub refused-long : (f : Bytes) (w : Why) (x : Refusal) → whyMeans w ≡ readRequest f → whyMeans w ≡ refused x → 4 ≤ length f
 refused-long f w x e d = rw (sym e ∙ d) at (long-read f)
 
-pub refuses-104 : (f buffer : Bytes) (w : Why) → w ≡ NoFrame → Refuses f w buffer 104 buffer
-refuses-104 f buffer w e = record { on-any = λ place t table. rw e refl }
+pub refuses-no-frame : (f buffer : Bytes) (w : Why) → w ≡ NoFrame → Refuses f w buffer notAFrame buffer
+refuses-no-frame f buffer w e = record { on-any = λ free t table. rw e refl }
 
 pub refuses-with : (f buffer : Bytes) (w : Why) (x : Refusal) (n : ℕ) (buffer' : Bytes) → whyMeans w ≡ refused x → n ≡ 0
     → buffer' ≡ over (frame (kindNumber f) (code x) []) buffer → Refuses f w buffer n buffer'
 unfolding replyFrame
-refuses-with f buffer w x n buffer' d z e = record { on-any = λ place t table. rw (d, z, e) refl }
+refuses-with f buffer w x n buffer' d z e = record { on-any = λ free t table. rw (d, z, e) refl }

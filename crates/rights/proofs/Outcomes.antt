@@ -1,139 +1,88 @@
--- The agent's answer to kinds 3 to 6, outcome by outcome. Assumes nothing.
+-- The agent's answer to kinds 3 to 5, outcome by outcome. Assumes nothing.
 use Prim.Native.Nat.{ℕ}
 use mathlib.Core.Path.{_≡_, refl, sym, ap, _∙_}
-use mathlib.Core.List.{List, [], _∷_}
+use mathlib.Core.List.{[], _∷_}
 use mathlib.Core.Logic.{⊎-elim}
 use mathlib.Core.Bool.{true, false, true≢false, false≢true}
 use native.Mathlib.Omega.{arith}
 use types.Run.{OneOf}
 use denote.Enum.Declared.{tagOf}
 use lib.ListN.{set}
-use Rattle.profile.specs.Bytes.{Bytes, part, Bytes256}
-use Rattle.profile.specs.Slot.{Count, Right, recount, reserved, enabled, disabled, Slot, empty, taken, inUse}
-use Rattle.profile.specs.Table.{rightOf, slotsOf}
+use Rattle.profile.specs.Bytes.{Bytes, Bytes256}
+use Rattle.profile.specs.Slot.{Count, Right, recount, Entry, enabled, disabled, taken, inUse}
+use Rattle.profile.specs.Table.{handleOf, rightOf, slotsOf}
 use Rattle.profile.specs.Frame.{duplicate}
-use Rattle.profile.specs.Request.{retrieve, rek, enable, remove}
-use Rattle.profile.specs.Agent.{Given, nothing, theRight, theKey, done, onRecord, lendAt, enableAt, removeAt, act}
+use Rattle.profile.specs.Request.{retrieve, rek, enable}
+use Rattle.profile.specs.Agent.{Given, Answer, nothing, done, onRecord, lendAt, enableAt, act}
 use Rattle.slots.specs.declared.place.Place.{Place}
 use Rattle.slots.specs.declared.place.Place.the-variants.{Empty, Reserved, Enabled, Disabled}
 use Rattle.slots.proofs.place.Place.{the-type}
-use Rattle.tables.specs.declared.lookup.Lookup.the-variants.{At}
 use Rattle.tables.specs.LookUp.{lookUp}
 use Rattle.changes.specs.Change.{slotAt}
 use Rattle.decisions.specs.declared.decision.Decision.{Decision}
-use Rattle.decisions.specs.declared.decision.Decision.the-variants.{Refuse, Change}
+use Rattle.decisions.specs.declared.decision.Decision.the-variants.{Refuse, Take}
 use Rattle.decisions.specs.Decisions.{takesPlace, lendable, installed, decided, unlessUsed}
-use Rattle.decisions.specs.Serving.{Ready, answerTo}
+use Rattle.decisions.specs.Serving.{Ready, Serves, answerTo}
 use Rattle.decisions.proofs.Answers.{Denied}
-use Rattle.decisions.proofs.Deciding.{Expects, refuses, stands, Held, held, lending-refused, lending-decided}
+use Rattle.decisions.proofs.Deciding.{expects, refuses, Held, chosen-enabled, lending-refused, lending-decided}
+use Rattle.rights.specs.Lending.{lentBy}
 
--- ---- the places that the kinds take
--- 3, 4: "not enabled, 6"
-lend-expects : (u : List Slot) (k : Bytes) (give : Right → Given) → Expects lendable (lendAt u k give)
-lend-expects u k give i (reserved n) q = refl
-lend-expects u k give i (enabled r) q = absurd (true≢false q)
-lend-expects u k give i (disabled r) q = refl
+-- ---- 3 and 4, by the decision d, whatever they give
+module _ (T B h k : Bytes) (bytes : Bytes256 T) (r : Ready T B) (d : Decision) (e : d ≡ unlessUsed (inUse k (slotsOf T)) (decided lendable (lookUp h (slotsOf T)))) where
+  abbrev before : Decision
+  before = decided lendable (lookUp h (slotsOf T))
 
--- 5, 6: "reserved, 6"
-enable-expects : (u : List Slot) (h : Bytes) (c : Count) → Expects installed (enableAt u h c)
-enable-expects u h c i (reserved n) q = refl
-enable-expects u h c i (enabled r) q = absurd (true≢false q)
-enable-expects u h c i (disabled r) q = absurd (true≢false q)
+  pub lend-refused : (give : Right → Given) (n : ℕ) → d ≡ Refuse n → Denied n (onRecord (slotsOf T) h (lendAt (slotsOf T) k give))
+  lend-refused give n q =
+      lending-refused (inUse k (slotsOf T)) before n (sym e ∙ q)
+      (refuses h (slotsOf T) lendable at (expects lendable at (λ _ i n. refl) (λ q. absurd (true≢false q)) (λ _ i r. refl)) before refl n)
+      (λ i o q used five. record { refusal = duplicate; numbered = five; answer = chosen-enabled T B h bytes r before refl i o q .acted-on at ∙ rw used })
+    where
+      at : ℕ → Entry → Answer
+      at = lendAt (slotsOf T) k give
 
-remove-expects : (u : List Slot) → Expects installed (removeAt u)
-remove-expects u i (reserved n) q = refl
-remove-expects u i (enabled r) q = absurd (true≢false q)
-remove-expects u i (disabled r) q = absurd (true≢false q)
+  module _ (i : ℕ) (o : Place) (q : d ≡ Take i o) where
+    free : (inUse k (slotsOf T) ≡ false) × (before ≡ Take i o)
+    free = lending-decided (inUse k (slotsOf T)) before i o (sym e ∙ q)
 
-only-enabled : (p : Place) → takesPlace lendable p ≡ true → p ≡ Enabled
-only-enabled Empty q = absurd (false≢true q)
-only-enabled Reserved q = absurd (false≢true q)
-only-enabled Enabled q = refl
-only-enabled Disabled q = absurd (false≢true q)
+    pub to-lend : Held T h i Enabled
+    to-lend = chosen-enabled T B h bytes r before refl i o (free .1)
 
--- an else behind `let Place::Disabled`
+    pub lends : (give : Right → Given) → onRecord (slotsOf T) h (lendAt (slotsOf T) k give) ≡ done (give (rightOf (slotAt T i))) (set (slotsOf T) i (taken k (disabled (rightOf (slotAt T i)))))
+    lends give = to-lend .acted-on (lendAt (slotsOf T) k give) ∙ rw (free .0)
+
+module _ {T B T' B' : Bytes} (h k : Bytes) where
+  pub retrieved : Serves 3 (onRecord (slotsOf T) h (lendAt (slotsOf T) k (lentBy 3))) T B T' B' → Serves 3 (answerTo T (retrieve h k)) T B T' B'
+  unfolding act
+  retrieved s = s
+
+  pub queried : Serves 4 (onRecord (slotsOf T) h (lendAt (slotsOf T) k (lentBy 4))) T B T' B' → Serves 4 (answerTo T (rek h k)) T B T' B'
+  unfolding act
+  queried s = s
+
+-- ---- 5, on a record that is installed
+-- an else after `let Place::Disabled`
 pub not-disabled : (p : Place) → OneOf (0 ∷ 1 ∷ 2 ∷ []) (tagOf the-type p) → p ≡ Disabled → ⊥
 not-disabled p others q = ⊎-elim (λ e. omega arith) (⊎-elim (λ e. omega arith) (λ e. omega arith)) (rw q at others)
 
--- ---- by the decision
-module _ (T B h : Bytes) (bytes : Bytes256 T) (r : Ready T B) (d : Decision) where
-  abbrev u : List Slot
-  u = slotsOf T
+module _ (T h : Bytes) (c : Count) where
+  pub enable-refused : (d : Decision) → d ≡ decided installed (lookUp h (slotsOf T)) → (n : ℕ) → d ≡ Refuse n → Denied n (answerTo T (enable h c))
+  unfolding act
+  enable-refused = refuses h (slotsOf T) installed at (expects installed at (λ _ i n. refl) (λ q. absurd (true≢false q)) (λ q. absurd (true≢false q)))
+    where
+      at : ℕ → Entry → Answer
+      at = enableAt (slotsOf T) h c
 
-  -- 5 and 6
-  module _ (e : d ≡ decided installed (lookUp h u)) where
-    pub enable-refused : (c : Count) (n : ℕ) → d ≡ Refuse n → Denied n (answerTo T (enable h c))
-    unfolding act
-    enable-refused c n q = refuses h u installed (enableAt u h c) n (enable-expects u h c) (sym e ∙ q)
+  -- an enabled record stays as it is
+  pub stays : (i : ℕ) (o : Place) → Held T h i o × (takesPlace installed o ≡ true) → (o ≡ Disabled → ⊥) → answerTo T (enable h c) ≡ done nothing (slotsOf T)
+  unfolding act
+  stays i Empty s n = absurd (false≢true (s .1))
+  stays i Reserved s n = absurd (false≢true (s .1))
+  stays i Enabled s n = s .0 .acted-on (enableAt (slotsOf T) h c)
+  stays i Disabled s n = absurd (n refl)
 
-    pub remove-refused : (n : ℕ) → d ≡ Refuse n → Denied n (answerTo T (remove h))
-    unfolding act
-    remove-refused n q = refuses h u installed (removeAt u) n (remove-expects u) (sym e ∙ q)
-
-    module _ (i : ℕ) (o : Place) (q : d ≡ Change i o) where
-      -- enabled, or disabled
-      held-installed : {P : Type 0} → (o ≡ Enabled → Held T h i Enabled → P) → (o ≡ Disabled → Held T h i Disabled → P) → P
-      held-installed {P} f g = let s = stands h u installed i o (sym e ∙ q) in go o refl (s .1) (s .0)
-        where
-          go : (p : Place) → o ≡ p → takesPlace installed p ≡ true → lookUp h u ≡ At i p → P
-          go Empty p t l = absurd (false≢true t)
-          go Reserved p t l = absurd (false≢true t)
-          go Enabled p t l = f p (held T B h bytes r i Enabled l)
-          go Disabled p t l = g p (held T B h bytes r i Disabled l)
-
-      -- "An enabled one stays as it is"
-      pub stays : (c : Count) → (o ≡ Disabled → ⊥) → answerTo T (enable h c) ≡ done nothing u
-      unfolding act
-      stays c n = held-installed (λ _ w. w .acted-on (enableAt u h c)) (λ y _. absurd (n y))
-
-      pub removes : answerTo T (remove h) ≡ done nothing (set u i empty)
-      unfolding act
-      removes = held-installed (λ _ w. w .acted-on (removeAt u)) (λ _ w. w .acted-on (removeAt u))
-
-    module _ (i : ℕ) (q : d ≡ Change i Disabled) where
-      pub held-disabled : Held T h i Disabled
-      held-disabled = held T B h bytes r i Disabled (stands h u installed i Disabled (sym e ∙ q) .0)
-
-      pub returned : (c : Count) → answerTo T (enable h c) ≡ done nothing (set u i (taken (part 1 10 (slotAt T i)) (enabled (recount c (rightOf (slotAt T i))))))
-      unfolding act
-      returned c =
-          held-disabled .acted-on (enableAt u h c)
-          ∙ ap (λ (k : Bytes). done nothing (set u i (taken k (enabled (recount c (rightOf (slotAt T i))))))) (sym (held-disabled .handle-is))
-
-  -- 3 and 4, whatever is given
-  module _ (k : Bytes) (e : d ≡ unlessUsed (inUse k u) (decided lendable (lookUp h u))) where
-    held-to-lend : (i : ℕ) (o : Place) → decided lendable (lookUp h u) ≡ Change i o → Held T h i Enabled
-    held-to-lend i o q = let s = stands h u lendable i o q in held T B h bytes r i Enabled (rw (← only-enabled o (s .1)) (s .0))
-
-    lend-refused : (give : Right → Given) (n : ℕ) → d ≡ Refuse n → Denied n (onRecord u h (lendAt u k give))
-    lend-refused give n q =
-        lending-refused (inUse k u) (decided lendable (lookUp h u)) n (sym e ∙ q)
-        (λ before. refuses h u lendable (lendAt u k give) n (lend-expects u k give) before)
-        (λ i o at used five. record { refusal = duplicate; numbered = five; answer = held-to-lend i o at .acted-on (lendAt u k give) ∙ rw used })
-
-    pub retrieve-refused : (n : ℕ) → d ≡ Refuse n → Denied n (answerTo T (retrieve h k))
-    unfolding act
-    retrieve-refused = lend-refused theRight
-
-    pub rek-refused : (n : ℕ) → d ≡ Refuse n → Denied n (answerTo T (rek h k))
-    unfolding act
-    rek-refused = lend-refused (λ x. theKey (x .key))
-
-    module _ (i : ℕ) (o : Place) (q : d ≡ Change i o) where
-      lendable-at : (inUse k u ≡ false) × (decided lendable (lookUp h u) ≡ Change i o)
-      lendable-at = lending-decided (inUse k u) (decided lendable (lookUp h u)) i o (sym e ∙ q)
-
-      pub held-lendable : Held T h i Enabled
-      held-lendable = held-to-lend i o (lendable-at .1)
-
-      lends : (give : Right → Given) → onRecord u h (lendAt u k give) ≡ done (give (rightOf (slotAt T i))) (set u i (taken k (disabled (rightOf (slotAt T i)))))
-      lends give = held-lendable .acted-on (lendAt u k give) ∙ rw (lendable-at .0)
-
-      -- 3 gives the right, 4 its key
-      pub retrieves : answerTo T (retrieve h k) ≡ done (theRight (rightOf (slotAt T i))) (set u i (taken k (disabled (rightOf (slotAt T i)))))
-      unfolding act
-      retrieves = lends theRight
-
-      pub queries : answerTo T (rek h k) ≡ done (theKey (rightOf (slotAt T i) .key)) (set u i (taken k (disabled (rightOf (slotAt T i)))))
-      unfolding act
-      queries = lends (λ x. theKey (x .key))
+  pub returned : (i : ℕ) → Held T h i Disabled → answerTo T (enable h c) ≡ done nothing (set (slotsOf T) i (taken (handleOf (slotAt T i)) (enabled (recount c (rightOf (slotAt T i))))))
+  unfolding act
+  returned i w =
+      w .acted-on (enableAt (slotsOf T) h c)
+      ∙ ap (λ (k : Bytes). done nothing (set (slotsOf T) i (taken k (enabled (recount c (rightOf (slotAt T i))))))) (sym (w .handle-is))

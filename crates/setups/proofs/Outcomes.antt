@@ -1,107 +1,78 @@
--- The agent's answer to kinds 1, 2 and 7, outcome by outcome. Assumes nothing.
+-- The agent's answer to kinds 1 and 2, outcome by outcome. Assumes nothing.
 use Prim.Native.Nat.{ℕ, _≤_, _<_}
-use mathlib.Core.Path.{_≡_, refl, sym, _∙_}
-use mathlib.Core.List.{List}
-use mathlib.Core.Bool.{true, false, _||_, true≢false, false≢true}
+use mathlib.Core.Path.{_≡_, refl, _∙_}
+use mathlib.Core.Bool.{true, false, _||_, true≢false}
 use borrow.Author.Tests.{lt-ltb, le-ltb, eq-eqb, ne-eqb}
 use lib.Dec.{leb, ltb}
 use lib.ListN.{length, set}
-use Rattle.profile.specs.Bytes.{Bytes, word, Bytes256}
-use Rattle.profile.specs.Slot.{Right, reserved, enabled, disabled, Slot, empty, taken, inUse}
-use Rattle.profile.specs.Table.{placeOf, slotCount, slotsOf}
-use Rattle.profile.specs.Frame.{parameter, duplicate, noSpace}
-use Rattle.profile.specs.Request.{setup, install, cancel}
-use Rattle.profile.specs.Agent.{nothing, done, installAt, cancelAt, act, lowestEmpty}
+use Rattle.profile.specs.Bytes.{Bytes}
+use Rattle.profile.specs.Sizes.{mostPayload}
+use Rattle.profile.specs.Slot.{Right, Entry, reserved, enabled, taken, inUse}
+use Rattle.profile.specs.Table.{placeOf, lengthOf, slotCount, slotsOf}
+use Rattle.profile.specs.Frame.{parameter, duplicate, noSpace, code}
+use Rattle.profile.specs.Request.{setup, install}
+use Rattle.profile.specs.Agent.{Answer, nothing, done, installAt, act, lowestEmpty}
 use Rattle.profile.proofs.Logic.{leb-over, or-parts}
 use Rattle.profile.proofs.Lookup.{lowestEmpty-free}
-use Rattle.slots.specs.declared.place.Place.{Place}
-use Rattle.slots.specs.declared.place.Place.the-variants.{Empty, Reserved, Enabled, Disabled}
+use Rattle.slots.specs.declared.place.Place.the-variants.{Reserved}
 use Rattle.tables.specs.LookUp.{lookUp}
 use Rattle.tables.proofs.SlotParts.{length-slots}
 use Rattle.changes.specs.Change.{slotAt, Has}
 use Rattle.changes.proofs.Standing.{free-place}
 use Rattle.decisions.specs.declared.decision.Decision.{Decision}
-use Rattle.decisions.specs.declared.decision.Decision.the-variants.{Refuse, Change}
-use Rattle.decisions.specs.Decisions.{takesPlace, awaited, decided}
-use Rattle.decisions.specs.Serving.{Ready, answerTo}
+use Rattle.decisions.specs.declared.decision.Decision.the-variants.{Refuse}
+use Rattle.decisions.specs.Decisions.{awaited, decided}
+use Rattle.decisions.specs.Serving.{Ready, answerAt, answerTo}
 use Rattle.decisions.proofs.Answers.{Denied}
-use Rattle.decisions.proofs.Deciding.{Expects, refuses, stands, Held, held}
+use Rattle.decisions.proofs.Deciding.{expects, refuses, Held}
 
--- ---- the places that the kinds take
--- 2: "record not reserved, 6"; 7: "not reserved, 6"
-install-expects : (u : List Slot) (h : Bytes) (x : Right) → Expects awaited (installAt u h x)
-install-expects u h x i (reserved n) q = absurd (true≢false q)
-install-expects u h x i (enabled r) q = refl
-install-expects u h x i (disabled r) q = refl
+-- ---- 2, on a record that is reserved
+module _ (T h : Bytes) (x : Right) where
+  pub install-refused : (d : Decision) → d ≡ decided awaited (lookUp h (slotsOf T)) → (n : ℕ) → d ≡ Refuse n → Denied n (answerTo T (install h x))
+  unfolding act
+  install-refused = refuses h (slotsOf T) awaited at (expects awaited at (λ q. absurd (true≢false q)) (λ _ i r. refl) (λ _ i r. refl))
+    where
+      at : ℕ → Entry → Answer
+      at = installAt (slotsOf T) h x
 
-cancel-expects : (u : List Slot) → Expects awaited (cancelAt u)
-cancel-expects u i (reserved n) q = absurd (true≢false q)
-cancel-expects u i (enabled r) q = refl
-cancel-expects u i (disabled r) q = refl
-
-only-reserved : (p : Place) → takesPlace awaited p ≡ true → p ≡ Reserved
-only-reserved Empty q = absurd (false≢true q)
-only-reserved Reserved q = refl
-only-reserved Enabled q = absurd (false≢true q)
-only-reserved Disabled q = absurd (false≢true q)
-
--- ---- by the decision
-module _ (T B h : Bytes) (bytes : Bytes256 T) (r : Ready T B) (d : Decision) where
-  abbrev u : List Slot
-  u = slotsOf T
-
-  -- 2 and 7
-  module _ (e : d ≡ decided awaited (lookUp h u)) where
-    pub install-refused : (x : Right) (n : ℕ) → d ≡ Refuse n → Denied n (answerTo T (install h x))
+  module _ {i : ℕ} (w : Held T h i Reserved) where
+    pub too-long : lengthOf (slotAt T i) < length (x .payload) → Denied (code noSpace) (answerTo T (install h x))
     unfolding act
-    install-refused x n q = refuses h u awaited (installAt u h x) n (install-expects u h x) (sym e ∙ q)
+    too-long l = record { refusal = noSpace; numbered = refl; answer = w .acted-on (installAt (slotsOf T) h x) ∙ rw (lt-ltb (lengthOf (slotAt T i)) (length (x .payload)) l) }
 
-    pub cancel-refused : (n : ℕ) → d ≡ Refuse n → Denied n (answerTo T (cancel h))
+    pub installs : length (x .payload) ≤ lengthOf (slotAt T i) → answerTo T (install h x) ≡ done nothing (set (slotsOf T) i (taken h (enabled x)))
     unfolding act
-    cancel-refused n q = refuses h u awaited (cancelAt u) n (cancel-expects u) (sym e ∙ q)
+    installs l = w .acted-on (installAt (slotsOf T) h x) ∙ rw (le-ltb (lengthOf (slotAt T i)) (length (x .payload)) l)
 
-    module _ (i : ℕ) (o : Place) (q : d ≡ Change i o) where
-      pub held-reserved : Held T h i Reserved
-      held-reserved = let s = stands h u awaited i o (sym e ∙ q) in held T B h bytes r i Reserved (rw (← only-reserved o (s .1)) (s .0))
+-- ---- 1, by its tests, whichever slot is the free one
+module _ (T h : Bytes) (n free : ℕ) where
+  abbrev answer : Answer
+  answer = answerAt free T (setup h n)
 
-      pub too-long : (x : Right) → word 29 (slotAt T i) < length (x .payload) → Denied 7 (answerTo T (install h x))
-      unfolding act
-      too-long x l = record { refusal = noSpace; numbered = refl; answer = held-reserved .acted-on (installAt u h x) ∙ rw (lt-ltb (word 29 (slotAt T i)) (length (x .payload)) l) }
-
-      pub installs : (x : Right) → length (x .payload) ≤ word 29 (slotAt T i) → answerTo T (install h x) ≡ done nothing (set u i (taken h (enabled x)))
-      unfolding act
-      installs x l = held-reserved .acted-on (installAt u h x) ∙ rw (le-ltb (word 29 (slotAt T i)) (length (x .payload)) l)
-
-      pub cancels : answerTo T (cancel h) ≡ done nothing (set u i empty)
-      unfolding act
-      cancels = held-reserved .acted-on (cancelAt u)
-
--- ---- 1, by its tests
-module _ (T B h : Bytes) (n : ℕ) (r : Ready T B) where
-  pub no-length : n ≡ 0 → Denied 2 (answerTo T (setup h n))
+  pub no-length : n ≡ 0 → Denied (code parameter) answer
   unfolding act
   no-length z = record { refusal = parameter; numbered = refl; answer = rw (eq-eqb n 0 z) }
 
   module _ (some : n ≡ 0 → ⊥) where
-    pub handle-used : inUse h (slotsOf T) ≡ true → Denied 5 (answerTo T (setup h n))
+    pub handle-used : inUse h (slotsOf T) ≡ true → Denied (code duplicate) answer
     unfolding act
     handle-used y = record { refusal = duplicate; numbered = refl; answer = rw (ne-eqb n 0 some, y) }
 
-    module _ (free : inUse h (slotsOf T) ≡ false) (i : ℕ) (lowest : i ≡ lowestEmpty (slotsOf T)) where
-      pub no-room : (ltb 4096 n || leb (slotCount T) i) ≡ true → Denied 7 (answerTo T (setup h n))
+    module _ (fresh : inUse h (slotsOf T) ≡ false) (i : ℕ) (taken-is : i ≡ free) where
+      pub no-room : (ltb mostPayload n || leb (slotCount T) i) ≡ true → Denied (code noSpace) answer
       unfolding act
-      no-room y = record { refusal = noSpace; numbered = refl; answer = rw (ne-eqb n 0 some, free, length-slots T, ← lowest, y) }
+      no-room y = record { refusal = noSpace; numbered = refl; answer = rw (ne-eqb n 0 some, fresh, length-slots T, ← taken-is, y) }
 
-      module _ (room : (ltb 4096 n || leb (slotCount T) i) ≡ false) where
-        below : i < slotCount T
-        below = leb-over (slotCount T) i (or-parts (ltb 4096 n) (leb (slotCount T) i) room .1)
+      pub sets-up : (ltb mostPayload n || leb (slotCount T) i) ≡ false → answer ≡ done nothing (set (slotsOf T) i (taken h (reserved n)))
+      unfolding act
+      sets-up y = rw (ne-eqb n 0 some, fresh, length-slots T, ← taken-is, y)
 
-        pub has-room : Has T i
-        has-room = record { whole = r .whole; well = r .well; inside = below }
-
-        pub empty-slot : placeOf (slotAt T i) ≡ 0
-        empty-slot = rw lowest (free-place T (r .whole) (r .well) (lowestEmpty (slotsOf T)) (lowestEmpty-free (slotsOf T) (rw (length-slots T, ← lowest) below)))
-
-        pub sets-up : answerTo T (setup h n) ≡ done nothing (set (slotsOf T) i (taken h (reserved n)))
-        unfolding act
-        sets-up = rw (ne-eqb n 0 some, free, length-slots T, ← lowest, room)
+-- the lowest empty slot, where there is room: one of the table's, and empty
+pub has-room : (T B : Bytes) → Ready T B → (n i : ℕ) → i ≡ lowestEmpty (slotsOf T) → (ltb mostPayload n || leb (slotCount T) i) ≡ false → Has T i × (placeOf (slotAt T i) ≡ 0)
+has-room T B r n i lowest y = (
+  record { whole = r .whole; well = r .well; inside = below },
+  rw lowest (free-place T (r .whole) (r .well) (lowestEmpty (slotsOf T)) (lowestEmpty-free (slotsOf T) (rw (length-slots T, ← lowest) below))),
+)
+  where
+    below : i < slotCount T
+    below = leb-over (slotCount T) i (or-parts (ltb mostPayload n) (leb (slotCount T) i) y .1)

@@ -2,10 +2,11 @@
 use Prim.Native.Nat.{ℕ, _+_, _*_, _≤_}
 use lib.ListN.{length}
 use Rattle.profile.specs.Bytes.{Bytes}
+use Rattle.profile.specs.Sizes.{mostPayload, hashSize, mostHashes}
 
--- the fields of kind 2 that stand in its frame passed their tests: n hashes from a place on, then a payload of so many bytes
+-- the fields of kind 2 that stand in its frame passed their tests: n hashes from the offset `at` on, then a payload of `size` bytes
 pub record Sent (frame : Bytes) (at n size : ℕ) : Type 0 where
-  pub few : n ≤ 8
+  pub few : n ≤ mostHashes
   pub some-payload : 1 ≤ size
-  pub short : size ≤ 4096
-  pub inside : at + 20 * n + size ≤ length frame
+  pub short : size ≤ mostPayload
+  pub inside : at + hashSize * n + size ≤ length frame

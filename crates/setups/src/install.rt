@@ -1,19 +1,25 @@
 // Kind 2, Rights Installation.
 use decisions::decision::AWAITED;
 use decisions::decision::Decision;
+use profile::Count;
+use profile::sizes::HANDLE_BYTES;
+use profile::sizes::KEY_BYTES;
+use profile::slot::LENGTH_AT;
+use profile::status::NOT_ENOUGH_SPACE;
+use profile::status::SUCCESS;
 ghost use Rattle.profile.specs.Request.{install as installation};
 ghost use Rattle.changes.specs.Change.{rightFrom};
 ghost use Rattle.decisions.specs.Serving.{Ready, Serves, answerTo};
 ghost use Rattle.setups.specs.Sending.{Sent};
 
-// "handle absent, 4; record not reserved, 6; payload longer than reserved, 7. The record becomes enabled with the fields
-// given; its length is the payload's."
+// PROFILE 5.2. Status 4 where no record is under the handle, 6 where it is not reserved, 7 for a payload longer than the room
+// reserved; otherwise the record becomes enabled with the right that the request has.
 pub fn install(
     table: &mut [u8],
     reply: &mut [u8],
-    h: [u8; 10],
-    key: [u8; 16],
-    count: u16,
+    h: [u8; HANDLE_BYTES],
+    key: [u8; KEY_BYTES],
+    count: Count,
     hashes: usize,
     frame: &[u8],
     at: usize,
@@ -24,14 +30,14 @@ pub fn install(
 {
     match decisions::decision::slot_under(table, h, AWAITED) {
         Decision::Refuse(status) => reply_writer::writer::reply_status(reply, 2, status),
-        Decision::Change(i, _) => {
-            let room = words::word_at(tables::part::slot_at(table, i), 29) as usize;
+        Decision::Take(i, _) => {
+            let room = words::word_at(tables::part::slot_at(table, i), LENGTH_AT) as usize;
             if room < size {
-                reply_writer::writer::reply_status(reply, 2, 7);
+                reply_writer::writer::reply_status(reply, 2, NOT_ENOUGH_SPACE);
                 return;
             }
             changes::store_right(table, i, h, key, count, hashes, frame, at, size);
-            reply_writer::writer::reply_status(reply, 2, 0)
+            reply_writer::writer::reply_status(reply, 2, SUCCESS)
         }
     }
 }

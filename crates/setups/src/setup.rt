@@ -1,26 +1,35 @@
 // Kind 1, Installation Setup.
+use profile::sizes::HANDLE_BYTES;
+use profile::sizes::MOST_PAYLOAD;
+use profile::sizes::SLOT_BYTES;
+use profile::status::DUPLICATE_HANDLE;
+use profile::status::NOT_ENOUGH_SPACE;
+use profile::status::PARAMETER_FAILED;
+use profile::status::SUCCESS;
 ghost use Rattle.profile.specs.Request.{setup as asking};
-ghost use Rattle.decisions.specs.Serving.{Ready, Serves, answerTo};
+ghost use Rattle.profile.specs.Table.{slotsOf};
+ghost use Rattle.profile.specs.Agent.{lowestEmpty};
+ghost use Rattle.decisions.specs.Serving.{Ready, Serves, answerAt};
 
-// "length 0, 2; handle in any non-empty slot, 5; length over 4,096 or no empty slot, 7. The lowest empty slot becomes
-// reserved."
-pub fn set_up(table: &mut [u8], reply: &mut [u8], h: [u8; 10], n: u16)
+// PROFILE 5.1. Status 2 for a length of 0, 5 where some slot has the handle, 7 for a length that no slot holds or where no slot
+// is empty; otherwise the lowest empty slot becomes reserved.
+pub fn set_up(table: &mut [u8], reply: &mut [u8], h: [u8; HANDLE_BYTES], n: u16)
     requires { ⌜ Ready (now table) (now reply) ⌝ }
-    ensures { λ _. ⌜ Serves 1 (answerTo (now (table .entry)) (asking h n)) (now (table .entry)) (now (reply .entry)) (now (table .exit)) (now (reply .exit)) ⌝ }
+    ensures { λ _. ⌜ Serves 1 (answerAt (lowestEmpty (slotsOf (now (table .entry)))) (now (table .entry)) (asking h n)) (now (table .entry)) (now (reply .entry)) (now (table .exit)) (now (reply .exit)) ⌝ }
 {
     if n == 0 {
-        reply_writer::writer::reply_status(reply, 1, 2);
+        reply_writer::writer::reply_status(reply, 1, PARAMETER_FAILED);
         return;
     }
     if tables::handle::in_use(table, h) {
-        reply_writer::writer::reply_status(reply, 1, 5);
+        reply_writer::writer::reply_status(reply, 1, DUPLICATE_HANDLE);
         return;
     }
     let i = tables::room::lowest_empty(table);
-    if (4096 < n) | (table.len() / 4288 <= i) {
-        reply_writer::writer::reply_status(reply, 1, 7);
+    if ((MOST_PAYLOAD as u16) < n) | (table.len() / SLOT_BYTES <= i) {
+        reply_writer::writer::reply_status(reply, 1, NOT_ENOUGH_SPACE);
         return;
     }
     changes::store_reservation(table, i, h, n);
-    reply_writer::writer::reply_status(reply, 1, 0);
+    reply_writer::writer::reply_status(reply, 1, SUCCESS);
 }

@@ -1,11 +1,25 @@
 -- `agent::answer` meets its contract: the frame is refused, or its request is served. Assumes nothing.
 use denote.Ref.{now}
+use mathlib.Core.Path.{_≡_}
 use borrow.Author.Needs.{needs}
 use Rattle.profile.specs.Table.{slotsOf}
+use Rattle.profile.specs.Request.{readRequest}
 use Rattle.profile.specs.Agent.{lowestEmpty}
+use Rattle.request_reader.specs.declared.asked.Why.{Why}
+use Rattle.request_reader.specs.Answer.{whyMeans}
+use Rattle.agent.specs.Call.{whyOf}
 use Rattle.agent.proofs.Steps.{why-means, refusal-obeys, obeys}
 use Rattle.agent.proofs.answer.Statement.{statement}
 use Rattle.agent.proofs.answer.Tie as tie
+
+-- from where the frame was read, back to the start
+abbrev start : tie.After-read-request → tie.Start
+start read = read .before .before .before .before
+
+no-request : (told : tie.After-enum-told) {x : Why} → x ≡ whyOf (told .before .before .read-request .result .ask) → whyMeans x ≡ readRequest (now (start (told .before .before) .args .frame))
+no-request told e =
+    let read = told .before .before in
+    why-means (now (start read .args .frame)) (read .read-request .result) (read .read-request .ensures) _ _ (told .enum-told .given .1) e
 
 read-request-requires : tie.Need-read-request-requires
 read-request-requires c κs = search needs
@@ -20,22 +34,18 @@ why-of-requires : tie.Need-why-of-requires
 why-of-requires c κs = search needs
 
 refuse-requires : tie.Need-refuse-requires
-refuse-requires c κs =
-    let start = c .before .before .before .before .before .before .before .before in
-    let read = c .before .before .before .before in
-    (why-means (now (start .args .frame)) (read .read-request .result) (read .read-request .ensures) _ _ (c .before .before .enum-told .given .1) (c .why-of .ensures), start .pre .room)
+refuse-requires c κs = (no-request (c .before .before) (c .why-of .ensures), start (c .before .before .before .before) .pre .room)
 
 same-length : tie.Need-same-length
 same-length c = search needs
 
 returns : tie.Need-returns
 returns c =
-    let start = c .before .before .before .before .before .before .before .before .before .before .before in
-    let read = c .before .before .before .before .before .before .before in
-    let t = now (start .args .table) in
-    refusal-obeys (now (start .args .frame)) (c .before .before .before .why-of .result) (now (start .args .reply)) (c .before .before .refuse .result) _ (c .before .before .refuse .ensures)
-    (why-means (now (start .args .frame)) (read .read-request .result) (read .read-request .ensures) _ _ (c .before .before .before .before .before .enum-told .given .1) (c .before .before .before .why-of .ensures))
-    (lowestEmpty (slotsOf t)) (slotsOf t) t
+    let refused = c .before .before in
+    let why = refused .before in
+    let told = why .before .before in
+    let t = now (start (told .before .before) .args .table) in
+    refusal-obeys _ _ _ _ _ (refused .refuse .ensures) (no-request told (why .why-of .ensures)) (lowestEmpty (slotsOf t)) (slotsOf t) t
 
 serve-requires : tie.Need-serve-requires
 serve-requires c κs = search needs
@@ -48,10 +58,9 @@ same-length-3 c = search needs
 
 returns-2 : tie.Need-returns-2
 returns-2 c =
-    let start = c .before .before .before .before .before .before .before .before .before .before .before .before .before .before in
-    let read = c .before .before .before .before .before .before .before .before .before .before in
-    obeys (now (start .args .frame)) (read .read-request .result) (c .before .before .before .before .before .before .before .before .ask .given .0 .0) (record { answers = read .read-request .ensures; yes = c .before .before .before .before .before .before .before .before .ask .given .1 })
-    (now (start .args .table)) (now (start .args .reply)) _ _ (c .before .before .before .before .serve .ensures)
+    let done = c .before .before .before .before in
+    let told = done .before .before .before .before in
+    obeys (record { answers = told .before .before .read-request .ensures; yes = told .ask .given .1 }) _ (done .serve .ensures)
 
 pub answer-spec : {M : Type 1} → statement M
 answer-spec =

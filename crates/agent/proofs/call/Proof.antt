@@ -1,19 +1,34 @@
 -- `agent::call` meets its contract: the numbers 101 to 103, and then what the frame asks. Assumes nothing.
 use denote.Ref.{now}
-use mathlib.Core.Path.{sym, _∙_}
+use mathlib.Core.Path.{_≡_, sym, _∙_}
+use mathlib.Core.Bool.{true}
 use borrow.Author.Needs.{needs}
 use borrow.Author.Tests.{not-true, not-false}
+use Rattle.profile.specs.Table.{wholeSlots, wellTable}
+use Rattle.profile.specs.Agent.{Call}
 use Rattle.profile.proofs.Numbers.{agent-101, agent-102, agent-103, agent-obeys}
 use Rattle.agent.specs.Call.{callOf}
 use Rattle.agent.proofs.call.Statement.{statement}
 use Rattle.agent.proofs.call.Tie as tie
 
+-- what is known once the tests for 101, for 102 and for 103 are passed
+module _ (long : tie.Else1) where
+  abbrev start : tie.Start
+  start = long .before .before .before .before
+
+  abbrev asked : Call
+  asked = callOf (now (start .args .frame)) (now (start .args .reply))
+
+whole : (w : tie.Else2) → wholeSlots (now (start (w .before .before .before) .args .table)) ≡ true
+whole w = sym (w .before .whole-slots .ensures) ∙ not-false _ (w .if2 .left)
+
+well : (w : tie.Else3) → wellTable (now (start (w .before .before .before .before .before .before) .args .table)) ≡ true
+well w = sym (w .before .well-table .ensures) ∙ not-false _ (w .if3 .left)
+
 returns : tie.Need-returns
 returns c =
-    let start = c .before .before .before .before in
-    let t = now (start .args .table) in
-    let o = callOf (now (start .args .frame)) (now (start .args .reply)) in
-    sym (agent-101 t o (c .if1 .taken))
+    let a = c .before .before .before .before .args in
+    sym (agent-101 (now (a .table)) (callOf (now (a .frame)) (now (a .reply))) (c .if1 .taken))
 
 whole-slots-requires : tie.Need-whole-slots-requires
 whole-slots-requires c κs = search needs
@@ -23,10 +38,8 @@ same-length c = search needs
 
 returns-2 : tie.Need-returns-2
 returns-2 c =
-    let start = c .before .before .before .before .before .before .before in
-    let t = now (start .args .table) in
-    let o = callOf (now (start .args .frame)) (now (start .args .reply)) in
-    sym (agent-102 t o (c .before .before .before .if1 .left) (sym (c .before .whole-slots .ensures) ∙ not-true _ (c .if2 .taken)))
+    let long = c .before .before .before in
+    sym (agent-102 (now (start long .args .table)) (asked long) (long .if1 .left) (sym (c .before .whole-slots .ensures) ∙ not-true _ (c .if2 .taken)))
 
 well-table-requires : tie.Need-well-table-requires
 well-table-requires c κs = search needs
@@ -36,18 +49,15 @@ same-length-2 c = search needs
 
 returns-3 : tie.Need-returns-3
 returns-3 c =
-    let start = c .before .before .before .before .before .before .before .before .before .before in
-    let t = now (start .args .table) in
-    let o = callOf (now (start .args .frame)) (now (start .args .reply)) in
-    sym (agent-103 t o (c .before .before .before .before .before .before .if1 .left) (sym (c .before .before .before .before .whole-slots .ensures) ∙ not-false _ (c .before .before .before .if2 .left)) (sym (c .before .well-table .ensures) ∙ not-true _ (c .if3 .taken)))
+    let w = c .before .before .before in
+    let long = w .before .before .before in
+    sym (agent-103 (now (start long .args .table)) (asked long) (long .if1 .left) (whole w) (sym (c .before .well-table .ensures) ∙ not-true _ (c .if3 .taken)))
 
 answer-requires : tie.Need-answer-requires
 answer-requires c κs =
-    record {
-      whole = sym (c .before .before .before .before .before .before .whole-slots .ensures) ∙ not-false _ (c .before .before .before .before .before .if2 .left);
-      well = sym (c .before .before .before .well-table .ensures) ∙ not-false _ (c .before .before .if3 .left);
-      room = c .before .before .before .before .before .before .before .before .if1 .left;
-    }
+    let last = c .before .before in
+    let w = last .before .before .before in
+    record { whole = whole w; well = well last; room = w .before .before .before .if1 .left }
 
 same-length-3 : tie.Need-same-length-3
 same-length-3 c = search needs
@@ -57,12 +67,11 @@ same-length-4 c = search needs
 
 returns-4 : tie.Need-returns-4
 returns-4 c =
-    let start = c .before .before .before .before .before .before .before .before .before .before .before .before .before .before .before .before .before in
-    let t = now (start .args .table) in
-    let o = callOf (now (start .args .frame)) (now (start .args .reply)) in
-    let k = c .before .before .before .before .before .before .before in
-    c .before .before .before .before .answer .ensures
-    ∙ sym (agent-obeys t o (k .before .before .before .before .before .before .if1 .left) (sym (k .before .before .before .before .whole-slots .ensures) ∙ not-false _ (k .before .before .before .if2 .left)) (sym (k .before .well-table .ensures) ∙ not-false _ (k .if3 .left)))
+    let done = c .before .before .before .before in
+    let last = done .before .before .before in
+    let w = last .before .before .before in
+    let long = w .before .before .before in
+    done .answer .ensures ∙ sym (agent-obeys (now (start long .args .table)) (asked long) (long .if1 .left) (whole w) (well last))
 
 pub call-spec : {M : Type 1} → statement M
 call-spec =

@@ -1,20 +1,25 @@
 -- `agent::serve` meets its contract: each kind's own promise is the profile's answer to what the frame reads as. Assumes nothing.
 use denote.Ref.{now}
-use mathlib.Core.Path.{refl, ap, _∙_}
+use mathlib.Core.Path.{sym, ap, _∙_}
 use native.Mathlib.Omega.{arith}
 use borrow.Author.Needs.{needs}
-use Rattle.profile.specs.Request.{setup, install, retrieve, rek, enable, remove, cancel, list, info}
-use Rattle.request_reader.specs.declared.asked.Body.{Body}
+use Rattle.profile.specs.Bytes.{Bytes256}
 use Rattle.request_reader.specs.declared.asked.Ask.the-variants.{Yes}
-use Rattle.request_reader.specs.Answer.{bodyMeans, hashesIn, rightIn}
 use Rattle.request_reader.proofs.ByCase.{install-within, list-within}
 use Rattle.octets.proofs.ByteBounds.{below-256}
+use Rattle.rights.proofs.Outcomes.{retrieved, queried}
+use Rattle.removals.proofs.Cleared.{removed, cancelled}
 use Rattle.queries.proofs.Untouched.{list-keeps, info-keeps}
-use Rattle.profile.specs.Table.{slotsOf}
-use Rattle.profile.specs.Agent.{lowestEmpty}
-use Rattle.agent.proofs.Steps.{serves-as, reads-only}
+use Rattle.agent.proofs.Steps.{served-at, served}
 use Rattle.agent.proofs.serve.Statement.{statement}
 use Rattle.agent.proofs.serve.Tie as tie
+
+-- from the match on the body, back to the start
+abbrev start : tie.After-key → tie.Start
+start m = m .before .before .before .before .before .before
+
+bytes : (m : tie.After-key) → Bytes256 (now (start m .args .table))
+bytes m = below-256 (now (start m .args .table)) (m .before .before .before .before .before .slice-known .given)
 
 enum-known-body : tie.Need-enum-known-body
 enum-known-body c = search needs
@@ -27,24 +32,22 @@ enum-known-body-2 c = search needs
 
 install-requires : tie.Need-install-requires
 install-requires c κs =
-    let start = c .before .before .before .before .before .before .before .before .before .before .before in
-    let k = c .before .before .before in
-    let w =
-    install-within (now (start .args .frame)) (start .args .asked) (start .pre .1 .answers) (k .body2 .given .0 .0) (k .body2 .given .0 .1 .0) (k .body2 .given .0 .1 .1 .0) (k .body2 .given .0 .1 .1 .1 .0)
-    (start .pre .1 .yes ∙ ap Yes (k .body2 .given .1)) in
-    (start .pre .0, record { few = w .few; some-payload = w .least; short = w .most; inside = omega (arith, w .ends) })
+    let told = c .before .before .before in
+    let s = start (told .before .before) in
+    let w = install-within (now (s .args .frame)) (s .args .asked) (s .pre .1 .answers) _ _ _ _ (s .pre .1 .yes ∙ ap Yes (told .body2 .given .1)) in
+    (s .pre .0, record { few = w .few; some-payload = w .least; short = w .most; inside = omega (arith, w .ends) })
 
 enum-told : tie.Need-enum-told
 enum-told c = search needs
 
-retrieve-requires : tie.Need-retrieve-requires
-retrieve-requires c κs = search needs
+lend-requires : tie.Need-lend-requires
+lend-requires c κs = search needs
 
 enum-told-2 : tie.Need-enum-told-2
 enum-told-2 c = search needs
 
-rek-requires : tie.Need-rek-requires
-rek-requires c κs = search needs
+lend-requires-2 : tie.Need-lend-requires-2
+lend-requires-2 c κs = search needs
 
 enum-known-body-3 : tie.Need-enum-known-body-3
 enum-known-body-3 c = search needs
@@ -55,26 +58,24 @@ enable-requires c κs = search needs
 enum-told-3 : tie.Need-enum-told-3
 enum-told-3 c = search needs
 
-remove-requires : tie.Need-remove-requires
-remove-requires c κs = search needs
+clear-requires : tie.Need-clear-requires
+clear-requires c κs = search needs
 
 enum-told-4 : tie.Need-enum-told-4
 enum-told-4 c = search needs
 
-cancel-requires : tie.Need-cancel-requires
-cancel-requires c κs = search needs
+clear-requires-2 : tie.Need-clear-requires-2
+clear-requires-2 c κs = search needs
 
 enum-known-body-4 : tie.Need-enum-known-body-4
 enum-known-body-4 c = search needs
 
 handle-list-requires : tie.Need-handle-list-requires
 handle-list-requires c κs =
-    let start = c .before .before .before .before .before .before .before .before .before .before .before in
-    let k = c .before .before .before in
-    let w =
-    list-within (now (start .args .frame)) (start .args .asked) (start .pre .1 .answers) (k .body4 .given .0 .0) (k .body4 .given .0 .1 .0) (k .body4 .given .0 .1 .1 .0)
-    (start .pre .1 .yes ∙ ap Yes (k .body4 .given .1)) in
-    (record { whole = start .pre .0 .whole; well = start .pre .0 .well; room = start .pre .0 .room }, w .few, omega (arith, w .ends))
+    let told = c .before .before .before in
+    let s = start (told .before .before) in
+    let w = list-within (now (s .args .frame)) (s .args .asked) (s .pre .1 .answers) _ _ _ (s .pre .1 .yes ∙ ap Yes (told .body4 .given .1)) in
+    (record { whole = s .pre .0 .whole; well = s .pre .0 .well; room = s .pre .0 .room }, w .few, omega (arith, w .ends))
 
 enum-told-5 : tie.Need-enum-told-5
 enum-told-5 c = search needs
@@ -90,11 +91,9 @@ same-length-2 c = search needs
 
 returns : tie.Need-returns
 returns c =
-    let start = c .before .before .before .before .before .before .before .before .before .before .before .before .before .before .before .before in
-    let k = c .before .before .before .before .before .before .before .before in
-    let f = now (start .args .frame) in
-    let r = start .args .asked in
-    serves-as f r (start .args .body) (start .pre .1) _ _ _ _ (setup (r .handle) (k .body .given .0 .0)) (ap (λ (x : Body). bodyMeans f x r) (k .body .given .1)) (c .before .before .before .before .set-up .ensures)
+    let done = c .before .before .before .before in
+    let told = done .before .before .before .before in
+    served-at (start (told .before .before) .pre .1) _ (told .body .given .1) (done .set-up .ensures)
 
 same-length-3 : tie.Need-same-length-3
 same-length-3 c = search needs
@@ -104,11 +103,9 @@ same-length-4 c = search needs
 
 returns-2 : tie.Need-returns-2
 returns-2 c =
-    let start = c .before .before .before .before .before .before .before .before .before .before .before .before .before .before .before .before in
-    let k = c .before .before .before .before .before .before .before .before in
-    let f = now (start .args .frame) in
-    let r = start .args .asked in
-    serves-as f r (start .args .body) (start .pre .1) _ _ _ _ (install (r .handle) (rightIn f (r .key) (k .body2 .given .0 .0) (k .body2 .given .0 .1 .0) (k .body2 .given .0 .1 .1 .0) (k .body2 .given .0 .1 .1 .1 .0))) (ap (λ (x : Body). bodyMeans f x r) (k .body2 .given .1)) (c .before .before .before .before .install .ensures)
+    let done = c .before .before .before .before in
+    let told = done .before .before .before .before in
+    served (start (told .before .before) .pre .1) _ (told .body2 .given .1) (omega arith) (done .install .ensures)
 
 same-length-5 : tie.Need-same-length-5
 same-length-5 c = search needs
@@ -118,11 +115,9 @@ same-length-6 c = search needs
 
 returns-3 : tie.Need-returns-3
 returns-3 c =
-    let start = c .before .before .before .before .before .before .before .before .before .before .before .before .before .before .before in
-    let k = c .before .before .before .before .before .before .before in
-    let f = now (start .args .frame) in
-    let r = start .args .asked in
-    serves-as f r (start .args .body) (start .pre .1) _ _ _ _ (retrieve (r .handle) (r .new)) (ap (λ (x : Body). bodyMeans f x r) (k .enum-told .given .1)) (c .before .before .before .before .retrieve .ensures)
+    let done = c .before .before .before .before in
+    let told = done .before .before .before in
+    served (start (told .before .before) .pre .1) _ (told .enum-told .given .1) (omega arith) (retrieved _ _ (done .lend .ensures))
 
 same-length-7 : tie.Need-same-length-7
 same-length-7 c = search needs
@@ -132,11 +127,9 @@ same-length-8 c = search needs
 
 returns-4 : tie.Need-returns-4
 returns-4 c =
-    let start = c .before .before .before .before .before .before .before .before .before .before .before .before .before .before .before in
-    let k = c .before .before .before .before .before .before .before in
-    let f = now (start .args .frame) in
-    let r = start .args .asked in
-    serves-as f r (start .args .body) (start .pre .1) _ _ _ _ (rek (r .handle) (r .new)) (ap (λ (x : Body). bodyMeans f x r) (k .enum-told2 .given .1)) (c .before .before .before .before .rek .ensures)
+    let done = c .before .before .before .before in
+    let told = done .before .before .before in
+    served (start (told .before .before) .pre .1) _ (told .enum-told2 .given .1) (omega arith) (queried _ _ (done .lend2 .ensures))
 
 same-length-9 : tie.Need-same-length-9
 same-length-9 c = search needs
@@ -146,11 +139,9 @@ same-length-10 c = search needs
 
 returns-5 : tie.Need-returns-5
 returns-5 c =
-    let start = c .before .before .before .before .before .before .before .before .before .before .before .before .before .before .before .before in
-    let k = c .before .before .before .before .before .before .before .before in
-    let f = now (start .args .frame) in
-    let r = start .args .asked in
-    serves-as f r (start .args .body) (start .pre .1) _ _ _ _ (enable (r .handle) (k .body3 .given .0 .0)) (ap (λ (x : Body). bodyMeans f x r) (k .body3 .given .1)) (c .before .before .before .before .enable .ensures)
+    let done = c .before .before .before .before in
+    let told = done .before .before .before .before in
+    served (start (told .before .before) .pre .1) _ (told .body3 .given .1) (omega arith) (done .enable .ensures)
 
 same-length-11 : tie.Need-same-length-11
 same-length-11 c = search needs
@@ -160,11 +151,9 @@ same-length-12 c = search needs
 
 returns-6 : tie.Need-returns-6
 returns-6 c =
-    let start = c .before .before .before .before .before .before .before .before .before .before .before .before .before .before .before in
-    let k = c .before .before .before .before .before .before .before in
-    let f = now (start .args .frame) in
-    let r = start .args .asked in
-    serves-as f r (start .args .body) (start .pre .1) _ _ _ _ (remove (r .handle)) (ap (λ (x : Body). bodyMeans f x r) (k .enum-told3 .given .1)) (c .before .before .before .before .remove .ensures)
+    let done = c .before .before .before .before in
+    let told = done .before .before .before in
+    served (start (told .before .before) .pre .1) _ (told .enum-told3 .given .1) (omega arith) (removed _ (done .clear .ensures))
 
 same-length-13 : tie.Need-same-length-13
 same-length-13 c = search needs
@@ -174,11 +163,9 @@ same-length-14 c = search needs
 
 returns-7 : tie.Need-returns-7
 returns-7 c =
-    let start = c .before .before .before .before .before .before .before .before .before .before .before .before .before .before .before in
-    let k = c .before .before .before .before .before .before .before in
-    let f = now (start .args .frame) in
-    let r = start .args .asked in
-    serves-as f r (start .args .body) (start .pre .1) _ _ _ _ (cancel (r .handle)) (ap (λ (x : Body). bodyMeans f x r) (k .enum-told4 .given .1)) (c .before .before .before .before .cancel .ensures)
+    let done = c .before .before .before .before in
+    let told = done .before .before .before in
+    served (start (told .before .before) .pre .1) _ (told .enum-told4 .given .1) (omega arith) (cancelled _ (done .clear2 .ensures))
 
 same-length-15 : tie.Need-same-length-15
 same-length-15 c = search needs
@@ -188,15 +175,12 @@ same-length-16 c = search needs
 
 returns-8 : tie.Need-returns-8
 returns-8 c =
-    let known = c .before .before .before .before .before .before .before .before .before .before .before .before .before in
-    let start = known .before in
-    let k = c .before .before .before .before .before .before in
-    let f = now (start .args .frame) in
-    let r = start .args .asked in
-    let t = now (start .args .table) in
-    let q = hashesIn f (k .body4 .given .0 .1 .0) (k .body4 .given .0 .1 .1 .0) in
-    reads-only f r (start .args .body) (start .pre .1) t (now (start .args .reply)) t _ (list (k .body4 .given .0 .0) q) (ap (λ (x : Body). bodyMeans f x r) (k .body4 .given .1)) (c .before .before .handle-list .ensures) refl
-    (list-keeps t (below-256 t (known .slice-known .given)) (start .pre .0 .whole) (start .pre .0 .well) (lowestEmpty (slotsOf t)) (k .body4 .given .0 .0) q)
+    let done = c .before .before in
+    let told = done .before .before .before .before in
+    let m = told .before .before in
+    let s = start m in
+    let kept = list-keeps (now (s .args .table)) (bytes m) (s .pre .0 .whole) (s .pre .0 .well) _ _ in
+    served (s .pre .1) _ (told .body4 .given .1) (omega arith) (record { table-is = sym kept; reply-is = done .handle-list .ensures })
 
 same-length-17 : tie.Need-same-length-17
 same-length-17 c = search needs
@@ -206,13 +190,12 @@ same-length-18 c = search needs
 
 returns-9 : tie.Need-returns-9
 returns-9 c =
-    let known = c .before .before .before .before .before .before .before .before .before .before .before .before in
-    let start = known .before in
-    let f = now (start .args .frame) in
-    let r = start .args .asked in
-    let t = now (start .args .table) in
-    reads-only f r (start .args .body) (start .pre .1) t (now (start .args .reply)) t _ (info (r .handle)) (ap (λ (x : Body). bodyMeans f x r) (c .before .before .before .before .before .enum-told5 .given .1)) (c .before .before .info .ensures) refl
-    (info-keeps t (below-256 t (known .slice-known .given)) (start .pre .0 .whole) (start .pre .0 .well) (lowestEmpty (slotsOf t)) (r .handle))
+    let done = c .before .before in
+    let told = done .before .before .before in
+    let m = told .before .before in
+    let s = start m in
+    let kept = info-keeps (now (s .args .table)) (bytes m) (s .pre .0 .whole) (s .pre .0 .well) _ in
+    served (s .pre .1) _ (told .enum-told5 .given .1) (omega arith) (record { table-is = sym kept; reply-is = done .info .ensures })
 
 pub serve-spec : {M : Type 1} → statement M
 serve-spec =
@@ -223,15 +206,15 @@ serve-spec =
     enum-known-body-2
     install-requires
     enum-told
-    retrieve-requires
+    lend-requires
     enum-told-2
-    rek-requires
+    lend-requires-2
     enum-known-body-3
     enable-requires
     enum-told-3
-    remove-requires
+    clear-requires
     enum-told-4
-    cancel-requires
+    clear-requires-2
     enum-known-body-4
     handle-list-requires
     enum-told-5

@@ -1,116 +1,72 @@
--- `queries::info` meets its contract, by the look-up's answer. Assumes nothing.
+-- `queries::info` meets its contract: refused as it was decided, or the reply from the slot. Assumes nothing.
 use denote.Ref.{now}
-use mathlib.Core.Path.{sym, _∙_}
-use mathlib.Core.Logic.{⊎-elim}
+use mathlib.Core.Path.{_∙_}
 use native.Mathlib.Omega.{arith}
-use Rattle.queries.proofs.Informed.{info-absent, info-two, info-enabled, info-other, info-below, info-short}
+use Rattle.octets.proofs.ByteBounds.{below-256}
+use Rattle.slots.specs.declared.place.Place.the-variants.{Enabled}
+use Rattle.decisions.proofs.Deciding.{Held, chosen-enabled, fits-lent}
+use Rattle.queries.proofs.Informed.{info-refused, info-done}
 use borrow.Author.Needs.{needs}
 use Rattle.queries.proofs.info.Statement.{statement}
 use Rattle.queries.proofs.info.Tie as tie
 
-look-up-requires : tie.Need-look-up-requires
-look-up-requires c κs = search needs
+-- from where slot i was decided, back to the start
+abbrev start : tie.After-i → tie.Start
+start at = at .before .before .before .before .before
 
-enum-told : tie.Need-enum-told
-enum-told c = search needs
+found : (at : tie.After-i) → Held (now (start at .args .table)) (start at .args .h) (at .i .given .0 .0) Enabled
+found at =
+    let decided = at .before .before in
+    let known = decided .before .before in
+    chosen-enabled _ _ _ (below-256 (now (start at .args .table)) (known .shared-slice-known .given)) (start at .pre) _ (decided .slot-under .ensures) _ _ (at .i .given .1)
+
+slot-under-requires : tie.Need-slot-under-requires
+slot-under-requires c κs = search needs
+
+enum-known-status : tie.Need-enum-known-status
+enum-known-status c = search needs
 
 reply-status-requires : tie.Need-reply-status-requires
 reply-status-requires c κs = search needs
 
-enum-told-2 : tie.Need-enum-told-2
-enum-told-2 c = search needs
-
-reply-status-requires-2 : tie.Need-reply-status-requires-2
-reply-status-requires-2 c κs = search needs
-
 enum-known-i : tie.Need-enum-known-i
 enum-known-i c = search needs
 
-enum-told-3 : tie.Need-enum-told-3
-enum-told-3 c = search needs
+slot-at-requires : tie.Need-slot-at-requires
+slot-at-requires c κs = found (c .before .before) .has .inside
 
-reply-status-requires-3 : tie.Need-reply-status-requires-3
-reply-status-requires-3 c κs = search needs
+reply-info-requires : tie.Need-reply-info-requires
+reply-info-requires c κs =
+    let at = c .before .before .before in
+    let w = found at in
+    (omega (arith, start at .pre .room), search needs, fits-lent _ _ (c .slot-at .ensures .0 ∙ w .lent) (w .fits) .long .1)
 
 same-length : tie.Need-same-length
 same-length c = search needs
 
 returns : tie.Need-returns
 returns c =
-    let k = c .before .before .before .before in
-    let at = k .before .before in
-    let looked = at .before .before in
-    let a = looked .before .before .before .args in
-    info-other (now (a .table)) (now (a .reply)) (a .h) (at .i .given .0 .0) (at .i .given .0 .1 .0)
-    (λ q. ⊎-elim (λ x. omega (arith, x)) (⊎-elim (λ x. omega (arith, x)) (λ x. omega (arith, x))) (rw q at (k .match2 .keys2)))
-    (sym (looked .look-up .ensures) ∙ at .i .given .1) _ (c .before .before .reply-status3 .ensures)
-
-slot-at-requires : tie.Need-slot-at-requires
-slot-at-requires c κs =
-    let at = c .before .before .before .before in
-    let looked = at .before .before in
-    let a = looked .before .before .before .args in
-    omega (arith, info-below (now (a .table)) (now (a .reply)) (a .h) (at .i .given .0 .0) (at .i .given .0 .1 .0) (sym (looked .look-up .ensures) ∙ at .i .given .1))
-
-reply-info-requires : tie.Need-reply-info-requires
-reply-info-requires c κs =
     let at = c .before .before .before .before .before in
-    let looked = at .before .before in
-    let start = looked .before .before .before in
-    let a = start .args in
-    (omega (arith, start .pre .room), search needs, info-short (now (a .table)) (now (a .reply)) (a .h) (at .i .given .0 .0) (at .i .given .0 .1 .0) (start .pre) (sym (looked .look-up .ensures) ∙ at .i .given .1) _ (c .slot-at .ensures .0))
+    let decided = at .before .before in
+    info-refused _ _ (decided .before .before .before .args .h) _ (decided .slot-under .ensures) _ (at .status .given .1) _ (c .before .before .reply-status .ensures)
 
 same-length-2 : tie.Need-same-length-2
 same-length-2 c = search needs
 
 returns-2 : tie.Need-returns-2
-returns-2 c =
-    let k = c .before .before .before .before in
-    let looked = k .before .before in
-    let a = looked .before .before .before .args in
-    info-absent (now (a .table)) (now (a .reply)) (a .h) (sym (looked .look-up .ensures) ∙ k .enum-told .given .1) _ (c .before .before .reply-status .ensures)
-
-same-length-3 : tie.Need-same-length-3
-same-length-3 c = search needs
-
-returns-3 : tie.Need-returns-3
-returns-3 c =
-    let k = c .before .before .before .before in
-    let looked = k .before .before in
-    let a = looked .before .before .before .args in
-    info-two (now (a .table)) (now (a .reply)) (a .h) (sym (looked .look-up .ensures) ∙ k .enum-told2 .given .1) _ (c .before .before .reply-status2 .ensures)
-
-same-length-4 : tie.Need-same-length-4
-same-length-4 c = search needs
-
-returns-4 : tie.Need-returns-4
-returns-4 c =
-    let k = c .before .before .before .before .before in
-    let at = k .before .before .before in
-    let looked = at .before .before in
-    let a = looked .before .before .before .args in
-    info-enabled (now (a .table)) (now (a .reply)) (a .h) (at .i .given .0 .0) (at .i .given .0 .1 .0) (k .enum-told3 .given .1) (sym (looked .look-up .ensures) ∙ at .i .given .1)
-    _ (c .before .before .before .slot-at .ensures .0) _ (c .before .before .reply-info .ensures)
+returns-2 c = info-done _ _ _ _ (found (c .before .before .before .before .before .before)) _ (c .before .before .before .slot-at .ensures .0) _ (c .before .before .reply-info .ensures)
 
 pub info-spec : {M : Type 1} → statement M
 info-spec =
     tie.close
     (tie.spec
-    look-up-requires
-    enum-told
+    slot-under-requires
+    enum-known-status
     reply-status-requires
-    enum-told-2
-    reply-status-requires-2
     enum-known-i
-    enum-told-3
-    reply-status-requires-3
-    same-length
-    returns
     slot-at-requires
     reply-info-requires
+    same-length
+    returns
     same-length-2
-    returns-2
-    same-length-3
-    returns-3
-    same-length-4
-    returns-4)
+    returns-2)

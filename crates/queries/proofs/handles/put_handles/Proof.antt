@@ -46,15 +46,17 @@ loop-again : tie.Need-loop-again Inv-loop μ-loop
 loop-again c =
     let l = c .before .before .before .before in
     let start = l .before .before .before in
+    let v = l .loop in
     let s = c .before .before .slot-at in
-    let below = c .before .before .before .loop-test .taken in
-    let ready = start .pre .0 in (
+    let listed = c .before .is-listed .ensures in
+    let passed = c .before .before .before .loop-test .taken in (
       omega arith,
       ⊎-elim
           (λ w. rw (w .5, w .6)
-          (pass-listed _ _ _ _ ready (l .loop .i) (l .loop .found) (l .loop .reply) below (l .loop .inv .1) (now (s .result)) (s .ensures .0) (s .ensures .1) (rw (w .0 .taken) at (c .before .is-listed .ensures)) (w .2 .last .0) (w .2 .kept .0) (w .2 .ensures)))
+          (pass-listed _ _ _ _ (start .pre .0) (v .i) (v .found) (v .reply) passed (v .inv .1) (now (s .result)) (s .ensures .0) (s .ensures .1)
+          (rw (w .0 .taken) at listed) (w .2 .last .0) (w .2 .kept .0) (w .2 .ensures)))
           (λ w. rw (w .1, w .2)
-          (pass-other _ _ _ _ ready (l .loop .i) (l .loop .found) (l .loop .reply) below (l .loop .inv .1) (now (s .result)) (s .ensures .0) (rw (w .0 .left) at (c .before .is-listed .ensures))))
+          (pass-other _ _ _ _ (start .pre .0) (v .i) (v .found) (v .reply) passed (v .inv .1) (now (s .result)) (s .ensures .0) (rw (w .0 .left) at listed)))
           (c .if1 .came),
     )
 

@@ -1,14 +1,37 @@
 -- `rights::enable::enable` meets its contract: refused as it was decided, kept as it is, or enabled again. Assumes nothing.
 use denote.Ref.{now}
-use mathlib.Core.Path.{ap, _∙_}
-use Rattle.profile.specs.Agent.{nothing}
+use mathlib.Core.Path.{_≡_}
+use mathlib.Core.Bool.{true}
+use Rattle.profile.specs.Bytes.{Bytes256}
 use Rattle.octets.proofs.ByteBounds.{below-256}
+use Rattle.slots.specs.declared.place.Place.{Place}
+use Rattle.slots.specs.declared.place.Place.the-variants.{Disabled}
+use Rattle.decisions.specs.Decisions.{takesPlace, installed}
 use Rattle.decisions.proofs.Answers.{refused-serves, done-serves, kept-serves}
-use Rattle.rights.proofs.Outcomes.{not-disabled, enable-refused, held-disabled, stays, returned}
-use Rattle.decisions.specs.declared.decision.Decision.the-variants.{Change}
+use Rattle.decisions.proofs.Deciding.{Held, chosen}
+use Rattle.rights.proofs.Outcomes.{not-disabled, enable-refused, stays, returned}
 use borrow.Author.Needs.{needs}
 use Rattle.rights.proofs.enable.enable.Statement.{statement}
 use Rattle.rights.proofs.enable.enable.Tie as tie
+
+-- from where the slot was decided, back to the start
+abbrev start : tie.After-slot-under → tie.Start
+start d = d .before .before .before .before
+
+bytes : (d : tie.After-slot-under) → Bytes256 (now (start d .args .table))
+bytes d = below-256 (now (start d .args .table)) (d .before .before .before .slice-known .given)
+
+-- slot i has the record, at the place o
+abbrev Record : tie.After-i → Place → Type 0
+Record at o = Held (now (start (at .before .before) .args .table)) (start (at .before .before) .args .h) (at .i .given .0 .0) o
+
+found : (at : tie.After-i) → Record at (at .i .given .0 .1 .0) × (takesPlace installed (at .i .given .0 .1 .0) ≡ true)
+found at =
+    let d = at .before .before in
+    chosen _ _ _ (bytes d) (start d .pre) _ _ (d .slot-under .ensures) _ _ (at .i .given .1)
+
+disabled : (told : tie.After-enum-told) → Record (told .before .before .before) Disabled
+disabled told = rw (told .enum-told .given .1) at (found (told .before .before .before) .0)
 
 slot-under-requires : tie.Need-slot-under-requires
 slot-under-requires c κs = search needs
@@ -36,19 +59,15 @@ same-length-2 c = search needs
 
 returns : tie.Need-returns
 returns c =
-    let known = c .before .before .before .before .before .before .before .before .before .before .before in
-    let start = known .before in
-    let t = now (start .args .table) in
-    let bytes = below-256 t (known .slice-known .given) in
-    kept-serves 5 _ t (now (start .args .reply)) _ bytes (start .pre) (stays t (now (start .args .reply)) (start .args .h) bytes (start .pre) _ (c .before .before .before .before .before .before .before .before .slot-under .ensures) _ _ (c .before .before .before .before .before .before .i .given .1) (start .args .count) (not-disabled _ (c .before .before .before .before .match2 .keys2))) (c .before .before .reply-status2 .ensures)
+    let replied = c .before .before in
+    let other = replied .before .before in
+    let at = other .before .before in
+    let d = at .before .before in
+    kept-serves (bytes d) (start d .pre) (stays _ _ (start d .args .count) _ _ (found at) (not-disabled _ (other .match2 .keys2))) (replied .reply-status2 .ensures)
 
 give-back-requires : tie.Need-give-back-requires
 give-back-requires c κs =
-    let known = c .before .before .before .before .before .before .before .before .before in
-    let start = known .before in
-    let t = now (start .args .table) in
-    let bytes = below-256 t (known .slice-known .given) in
-    let w = held-disabled t (now (start .args .reply)) (start .args .h) bytes (start .pre) _ (c .before .before .before .before .before .before .slot-under .ensures) _ (c .before .before .before .before .i .given .1 ∙ ap (λ p. Change (c .before .before .before .before .i .given .0 .0) p) (c .before .enum-told .given .1)) in
+    let w = disabled (c .before) in
     (w .has, w .place-is)
 
 reply-status-requires-3 : tie.Need-reply-status-requires-3
@@ -62,11 +81,10 @@ same-length-4 c = search needs
 
 returns-2 : tie.Need-returns-2
 returns-2 c =
-    let known = c .before .before .before .before .before .before .before .before .before .before in
-    let start = known .before in
-    let t = now (start .args .table) in
-    let bytes = below-256 t (known .slice-known .given) in
-    refused-serves 5 _ t (now (start .args .reply)) _ _ (enable-refused t (now (start .args .reply)) (start .args .h) bytes (start .pre) _ (c .before .before .before .before .before .before .before .slot-under .ensures) (start .args .count) _ (c .before .before .before .before .before .status .given .1)) (c .before .before .reply-status .ensures)
+    let replied = c .before .before in
+    let at = replied .before .before .before in
+    let d = at .before .before in
+    refused-serves (enable-refused _ (start d .args .h) (start d .args .count) _ (d .slot-under .ensures) _ (at .status .given .1)) (replied .reply-status .ensures)
 
 same-length-5 : tie.Need-same-length-5
 same-length-5 c = search needs
@@ -76,11 +94,10 @@ same-length-6 c = search needs
 
 returns-3 : tie.Need-returns-3
 returns-3 c =
-    let known = c .before .before .before .before .before .before .before .before .before .before .before .before .before .before .before .before in
-    let start = known .before in
-    let t = now (start .args .table) in
-    let bytes = below-256 t (known .slice-known .given) in
-    done-serves 5 _ t (now (start .args .reply)) _ nothing _ _ (returned t (now (start .args .reply)) (start .args .h) bytes (start .pre) _ (c .before .before .before .before .before .before .before .before .before .before .before .before .before .slot-under .ensures) _ (c .before .before .before .before .before .before .before .before .before .before .before .i .given .1 ∙ ap (λ p. Change (c .before .before .before .before .before .before .before .before .before .before .before .i .given .0 .0) p) (c .before .before .before .before .before .before .before .before .enum-told .given .1)) (start .args .count)) (c .before .before .before .before .before .before .give-back .ensures) (c .before .before .reply-status3 .ensures)
+    let changed = c .before .before .before .before .before .before in
+    let told = changed .before .before in
+    let d = told .before .before .before .before .before in
+    done-serves (returned _ _ (start d .args .count) _ (disabled told)) (changed .give-back .ensures) (c .before .before .reply-status3 .ensures)
 
 pub enable-spec : {M : Type 1} → statement M
 enable-spec =

@@ -1,12 +1,21 @@
 -- `setups::setup::set_up` meets its contract, test by test. Assumes nothing.
 use denote.Ref.{now}
-use mathlib.Core.Path.{sym, _∙_}
-use Rattle.profile.specs.Agent.{nothing}
+use mathlib.Core.Path.{_≡_, sym, _∙_}
+use mathlib.Core.Bool.{false}
+use Rattle.profile.specs.Slot.{inUse}
+use Rattle.profile.specs.Table.{slotsOf}
 use Rattle.decisions.proofs.Answers.{refused-serves, done-serves}
-use Rattle.setups.proofs.Outcomes.{no-length, handle-used, no-room, has-room, empty-slot, sets-up}
+use Rattle.setups.proofs.Outcomes.{no-length, handle-used, no-room, has-room, sets-up}
 use borrow.Author.Needs.{needs}
 use Rattle.setups.proofs.setup.set_up.Statement.{statement}
 use Rattle.setups.proofs.setup.set_up.Tie as tie
+
+-- from the test for a length, back to the start
+abbrev start : tie.Else1 → tie.Start
+start some = some .before .before .before
+
+fresh : (new : tie.Else2) → inUse (start (new .before .before .before) .args .h) (slotsOf (now (start (new .before .before .before) .args .table))) ≡ false
+fresh new = sym (new .before .in-use .ensures) ∙ new .if2 .left
 
 reply-status-requires : tie.Need-reply-status-requires
 reply-status-requires c κs = search needs
@@ -15,10 +24,7 @@ same-length : tie.Need-same-length
 same-length c = search needs
 
 returns : tie.Need-returns
-returns c =
-    let start = c .before .before .before .before .before .before .before in
-    let a = start .args in
-    refused-serves 1 _ (now (a .table)) (now (a .reply)) _ 2 (no-length (now (a .table)) (now (a .reply)) (a .h) (a .n) (start .pre) (c .before .before .before .before .if1 .taken)) (c .before .before .reply-status .ensures)
+returns c = refused-serves (no-length _ _ _ _ (c .before .before .before .before .if1 .taken)) (c .before .before .reply-status .ensures)
 
 in-use-requires : tie.Need-in-use-requires
 in-use-requires c κs = search needs
@@ -34,12 +40,16 @@ same-length-3 c = search needs
 
 returns-2 : tie.Need-returns-2
 returns-2 c =
-    let start = c .before .before .before .before .before .before .before .before .before .before in
-    let a = start .args in
-    refused-serves 1 _ (now (a .table)) (now (a .reply)) _ 5 (handle-used (now (a .table)) (now (a .reply)) (a .h) (a .n) (start .pre) (c .before .before .before .before .before .before .before .if1 .left) (sym (c .before .before .before .before .before .in-use .ensures) ∙ c .before .before .before .before .if2 .taken)) (c .before .before .reply-status2 .ensures)
+    let replied = c .before .before in
+    let used = replied .before .before in
+    let some = used .before .before .before in
+    refused-serves (handle-used _ _ _ _ (some .if1 .left) (sym (used .before .in-use .ensures) ∙ used .if2 .taken)) (replied .reply-status2 .ensures)
 
 lowest-empty-requires : tie.Need-lowest-empty-requires
 lowest-empty-requires c κs = search needs
+
+cast-if3 : tie.Need-cast-if3
+cast-if3 c = search needs
 
 reply-status-requires-3 : tie.Need-reply-status-requires-3
 reply-status-requires-3 c κs = search needs
@@ -52,15 +62,16 @@ same-length-5 c = search needs
 
 returns-3 : tie.Need-returns-3
 returns-3 c =
-    let start = c .before .before .before .before .before .before .before .before .before .before .before .before .before in
-    let a = start .args in
-    refused-serves 1 _ (now (a .table)) (now (a .reply)) _ 7 (no-room (now (a .table)) (now (a .reply)) (a .h) (a .n) (start .pre) (c .before .before .before .before .before .before .before .before .before .before .if1 .left) (sym (c .before .before .before .before .before .before .before .before .in-use .ensures) ∙ c .before .before .before .before .before .before .before .if2 .left) _ (c .before .before .before .before .before .lowest-empty .ensures) (c .before .before .before .before .if3 .taken)) (c .before .before .reply-status3 .ensures)
+    let replied = c .before .before in
+    let full = replied .before .before in
+    let new = full .before .before .before in
+    refused-serves (no-room _ _ _ _ (new .before .before .before .if1 .left) (fresh new) _ (full .before .lowest-empty .ensures) (full .if3 .taken)) (replied .reply-status3 .ensures)
 
 store-reservation-requires : tie.Need-store-reservation-requires
 store-reservation-requires c κs =
-    let start = c .before .before .before .before .before .before .before .before .before .before in
-    let a = start .args in
-    (has-room (now (a .table)) (now (a .reply)) (a .h) (a .n) (start .pre) (c .before .before .before .before .before .before .before .if1 .left) (sym (c .before .before .before .before .before .in-use .ensures) ∙ c .before .before .before .before .if2 .left) _ (c .before .before .lowest-empty .ensures) (c .before .if3 .left), empty-slot (now (a .table)) (now (a .reply)) (a .h) (a .n) (start .pre) (c .before .before .before .before .before .before .before .if1 .left) (sym (c .before .before .before .before .before .in-use .ensures) ∙ c .before .before .before .before .if2 .left) _ (c .before .before .lowest-empty .ensures) (c .before .if3 .left))
+    let room = c .before in
+    let s = start (room .before .before .before .before .before .before) in
+    has-room _ _ (s .pre) (s .args .n) _ (room .before .lowest-empty .ensures) (room .if3 .left)
 
 reply-status-requires-4 : tie.Need-reply-status-requires-4
 reply-status-requires-4 c κs = search needs
@@ -73,9 +84,11 @@ same-length-7 c = search needs
 
 returns-4 : tie.Need-returns-4
 returns-4 c =
-    let start = c .before .before .before .before .before .before .before .before .before .before .before .before .before .before .before .before .before in
-    let a = start .args in
-    done-serves 1 _ (now (a .table)) (now (a .reply)) _ nothing _ _ (sets-up (now (a .table)) (now (a .reply)) (a .h) (a .n) (start .pre) (c .before .before .before .before .before .before .before .before .before .before .before .before .before .before .if1 .left) (sym (c .before .before .before .before .before .before .before .before .before .before .before .before .in-use .ensures) ∙ c .before .before .before .before .before .before .before .before .before .before .before .if2 .left) _ (c .before .before .before .before .before .before .before .before .before .lowest-empty .ensures) (c .before .before .before .before .before .before .before .before .if3 .left)) (c .before .before .before .before .before .before .store-reservation .ensures) (c .before .before .reply-status4 .ensures)
+    let changed = c .before .before .before .before .before .before in
+    let room = changed .before .before in
+    let new = room .before .before .before in
+    done-serves (sets-up _ _ _ _ (new .before .before .before .if1 .left) (fresh new) _ (room .before .lowest-empty .ensures) (room .if3 .left))
+    (changed .store-reservation .ensures) (c .before .before .reply-status4 .ensures)
 
 pub set-up-spec : {M : Type 1} → statement M
 set-up-spec =
@@ -90,6 +103,7 @@ set-up-spec =
     same-length-3
     returns-2
     lowest-empty-requires
+    cast-if3
     reply-status-requires-3
     same-length-4
     same-length-5

@@ -1,0 +1,82 @@
+-- `removals::clear` meets its contract: refused as it was decided, or the slot cleared. Assumes nothing.
+use denote.Ref.{now}
+use mathlib.Core.Path.{_≡_}
+use mathlib.Core.Bool.{true}
+use Rattle.profile.specs.Table.{slotsOf}
+use Rattle.octets.proofs.ByteBounds.{below-256}
+use Rattle.decisions.specs.Decisions.{takesPlace}
+use Rattle.decisions.proofs.Answers.{refused-serves, done-serves}
+use Rattle.decisions.proofs.Deciding.{refuses, Held, chosen}
+use Rattle.removals.proofs.Cleared.{clear-expects, cleared}
+use borrow.Author.Needs.{needs}
+use Rattle.removals.proofs.clear.Statement.{statement}
+use Rattle.removals.proofs.clear.Tie as tie
+
+-- from where the slot was decided, back to the start
+abbrev start : tie.After-slot-under → tie.Start
+start d = d .before .before .before .before
+
+found : (at : tie.After-i) → Held (now (start (at .before .before) .args .table)) (start (at .before .before) .args .h) (at .i .given .0 .0) (at .i .given .0 .1 .0)
+    × (takesPlace (start (at .before .before) .args .takes) (at .i .given .0 .1 .0) ≡ true)
+found at =
+    let d = at .before .before in
+    chosen _ _ _ (below-256 (now (start d .args .table)) (d .before .before .before .slice-known .given)) (start d .pre .0) _ _ (d .slot-under .ensures) _ _ (at .i .given .1)
+
+slot-under-requires : tie.Need-slot-under-requires
+slot-under-requires c κs = search needs
+
+enum-known-status : tie.Need-enum-known-status
+enum-known-status c = search needs
+
+reply-status-requires : tie.Need-reply-status-requires
+reply-status-requires c κs = search needs
+
+enum-known-i : tie.Need-enum-known-i
+enum-known-i c = search needs
+
+clear-slot-requires : tie.Need-clear-slot-requires
+clear-slot-requires c κs = found (c .before .before) .0 .has
+
+reply-status-requires-2 : tie.Need-reply-status-requires-2
+reply-status-requires-2 c κs = search needs
+
+same-length : tie.Need-same-length
+same-length c = search needs
+
+same-length-2 : tie.Need-same-length-2
+same-length-2 c = search needs
+
+returns : tie.Need-returns
+returns c =
+    let replied = c .before .before in
+    let at = replied .before .before .before in
+    let d = at .before .before in
+    refused-serves (refuses _ _ _ _ (clear-expects _ (slotsOf (now (start d .args .table)))) _ (d .slot-under .ensures) _ (at .status .given .1)) (replied .reply-status .ensures)
+
+same-length-3 : tie.Need-same-length-3
+same-length-3 c = search needs
+
+same-length-4 : tie.Need-same-length-4
+same-length-4 c = search needs
+
+returns-2 : tie.Need-returns-2
+returns-2 c =
+    let changed = c .before .before .before .before .before .before in
+    done-serves (cleared _ _ _ _ _ (found (changed .before .before .before))) (changed .clear-slot .ensures) (c .before .before .reply-status2 .ensures)
+
+pub clear-spec : {M : Type 1} → statement M
+clear-spec =
+    tie.close
+    (tie.spec
+    slot-under-requires
+    enum-known-status
+    reply-status-requires
+    enum-known-i
+    clear-slot-requires
+    reply-status-requires-2
+    same-length
+    same-length-2
+    returns
+    same-length-3
+    same-length-4
+    returns-2)
