@@ -8,7 +8,7 @@ pub const TABLE_LENGTH: u16 = 102;
 
 pub const TABLE_NOT_WELL_FORMED: u16 = 103;
 
-pub const NOT_A_FRAME: u16 = 104;
+pub const NO_FRAME: u16 = 104;
 
 // The request writer's.
 pub const WRITER_BUFFER_SHORT: u16 = 201;
@@ -16,4 +16,4 @@ pub const WRITER_BUFFER_SHORT: u16 = 201;
 pub const WRITER_FIELDS: u16 = 202;
 
 // The reply reader's.
-pub const NOT_A_REPLY: u16 = 203;
+pub const NO_REPLY: u16 = 203;

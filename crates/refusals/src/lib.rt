@@ -1,6 +1,6 @@
 // What is answered to a frame that is no request.
 use profile::number::DONE;
-use profile::number::NOT_A_FRAME;
+use profile::number::NO_FRAME;
 use profile::status::FIELD_INTEGRITY_VERIFICATION_FAILED;
 use profile::status::PARAMETER_FAILED;
 use profile::status::REQUEST_NOT_SUPPORTED;
@@ -31,7 +31,7 @@ pub fn refuse(frame: &[u8], reply: &mut [u8], why: Why) -> u16
     ensures { λ r. ⌜ Refuses (now (frame .entry)) why (now (reply .entry)) r (now (reply .exit)) ⌝ }
 {
     match why {
-        Why::NoFrame => NOT_A_FRAME,
+        Why::NoFrame => NO_FRAME,
         Why::Integrity => refuse_with(frame, reply, FIELD_INTEGRITY_VERIFICATION_FAILED),
         Why::Parameter => refuse_with(frame, reply, PARAMETER_FAILED),
         Why::Unsupported => refuse_with(frame, reply, REQUEST_NOT_SUPPORTED),

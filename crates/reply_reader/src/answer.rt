@@ -3,7 +3,7 @@ ghost use mathlib.Core.Path.{_≡_};
 ghost use Rattle.reply_reader.specs.Told.{number};
 use profile::Count;
 use profile::number::DONE;
-use profile::number::NOT_A_REPLY;
+use profile::number::NO_REPLY;
 use profile::sizes::KEY_BYTES;
 
 // The cases of a reply (PROFILE 6.3). `Malformed` is the number 203. Offsets count from the frame's first byte. What each case means
@@ -48,7 +48,7 @@ pub fn number_of(answer: Answer) -> u16
     ensures { λ r. ⌜ r ≡ number answer ⌝ }
 {
     match answer {
-        Answer::Malformed => NOT_A_REPLY,
+        Answer::Malformed => NO_REPLY,
         Answer::Failed { kind: _, status: _ } => DONE,
         Answer::Nothing { kind: _ } => DONE,
         Answer::Right {
