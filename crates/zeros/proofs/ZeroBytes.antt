@@ -54,13 +54,13 @@ zero-last s i = rw (take-all (length s - i) (drop i s) (simp length-drop (omega 
 -- ---- what is left to look at, after blocks that were all 0
 pub record Left (s rest : Bytes) : Type 0 where
   pub short : length rest ≤ length s
-  pub behind : rest ≡ drop (length s - length rest) s
+  pub after : rest ≡ drop (length s - length rest) s
   pub decides : allZero s ≡ allZero rest
 
 pub all-left : (s : Bytes) → Left s s
 all-left s =
     let e : length s - length s ≡ 0 = omega arith in
-    record { short = omega arith; behind = rw e; decides = refl }
+    record { short = omega arith; after = rw e; decides = refl }
 
 pub less-left : (s rest : Bytes) (n : ℕ) → Left s rest → n ≤ length rest → allZero (part 0 (n - 0) rest) ≡ true
     → Left s (part n (length rest - n) rest)
@@ -70,7 +70,7 @@ less-left s rest n l h z =
     let k : (length s - length rest) + n ≡ length s - (length rest - n) = omega (arith, l .short) in
     record {
       short = rw (e, m) (omega (arith, l .short));
-      behind = rw (e, m, sym k) (ap (drop n) (l .behind) ∙ drop-drop n (length s - length rest) s);
+      after = rw (e, m, sym k) (ap (drop n) (l .after) ∙ drop-drop n (length s - length rest) s);
       decides = l .decides ∙ zero-pass rest 0 n (omega arith) z ∙ sym (zero-last rest n);
     }
 
@@ -82,7 +82,7 @@ last-decides s rest m l few all = go (allZero (drop (length s - m) s)) refl
     k = omega (arith, few, all)
 
     within : drop (m - length rest) (drop (length s - m) s) ≡ rest
-    within = rw (drop-drop (m - length rest) (length s - m) s, k) (sym (l .behind))
+    within = rw (drop-drop (m - length rest) (length s - m) s, k) (sym (l .after))
 
     go : (b : Bool) → allZero (drop (length s - m) s) ≡ b → b ≡ allZero s
     go true z = sym (l .decides ∙ rw within at (zero-drop (m - length rest) (drop (length s - m) s) z))
