@@ -1,4 +1,7 @@
 // The reply of kind 8 (PROFILE 3.4): the handles are written first, one by one, and then what stands in front of them.
+use profile::sizes::HANDLE_BYTES;
+use profile::slot::HANDLE_AT;
+use profile::status::SUCCESS;
 ghost use mathlib.Core.Path.{_≡_};
 ghost use Prim.Native.Nat.{_+_, _*_, _≤_};
 ghost use lib.ListN.{length};
@@ -7,9 +10,6 @@ ghost use Rattle.profile.specs.Sizes.{mostSlots, handleSize, handleAt};
 ghost use Rattle.profile.specs.Table.{handleOf};
 ghost use Rattle.buffers.specs.Over.{overAt};
 ghost use Rattle.list_replies.specs.Listed.{listStart};
-use profile::sizes::HANDLE_BYTES;
-use profile::slot::HANDLE_AT;
-use profile::status::SUCCESS;
 
 // A slot's handle goes after k others.
 pub fn put_handle(reply: &mut [u8], k: usize, slot: &[u8])

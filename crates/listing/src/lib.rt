@@ -1,17 +1,17 @@
 // The listing of a table, as the program `cardlist` prints it (PROFILE 7.1): a header, and then a line for each slot.
+use profile::number::TABLE_LENGTH;
+use profile::number::TABLE_NOT_WELL_FORMED;
+use profile::sizes::MOST_SLOTS;
 ghost use mathlib.Core.Path.{_≡_};
 ghost use lib.ListN.{length};
 ghost use Rattle.profile.specs.Bytes.{over};
 ghost use Rattle.profile.specs.Listing.{listing};
-use profile::number::TABLE_LENGTH;
-use profile::number::TABLE_NOT_WELL_FORMED;
-use profile::sizes::MOST_SLOTS;
 
 mod put; // put.rt: words and numbers, one after the other
 mod lines; // lines.rt: the line of a slot, and those of all slots
 
-// The longest listing: a header of 31 bytes, and for each slot a line of 25, which is what an index of two digits, a word of eight
-// letters, one digit of hashes, five of a count and four of a length come to, with four spaces and a newline.
+// Room for every listing: a header of 31 bytes, and for each slot a line of at most 25, which is what an index of two digits, a word of
+// eight letters, one digit of hashes, five of a count and four of a length come to, with four spaces and a newline.
 pub const LISTING_ROOM: usize = 31 + 25 * MOST_SLOTS;
 
 // The numbers of a refused table, as they are printed.

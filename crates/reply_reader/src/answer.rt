@@ -1,10 +1,10 @@
 // What a reply tells: an enum of numbers and offsets, with the key beside it.
-ghost use mathlib.Core.Path.{_≡_};
-ghost use Rattle.reply_reader.specs.Told.{number};
 use profile::Count;
 use profile::number::DONE;
 use profile::number::NO_REPLY;
 use profile::sizes::KEY_BYTES;
+ghost use mathlib.Core.Path.{_≡_};
+ghost use Rattle.reply_reader.specs.Told.{number};
 
 // The cases of a reply (PROFILE 6.3). `Malformed` is the number 203. Offsets count from the frame's first byte. What each case means
 // is said by `meaning` in specs/Told.

@@ -1,14 +1,14 @@
 // The reply reader's tests (PROFILE 6.3): whether a frame is a reply, and whether its body is of its kind's shape.
-ghost use mathlib.Core.Path.{_≡_};
-ghost use mathlib.Core.Bool.{_&&_};
-ghost use Rattle.profile.specs.Frame.{isFrame, versionHolds, body, Retrieve, Rek, List', Info};
-ghost use Rattle.profile.specs.Device.{none?, shaped};
 use profile::sizes::HANDLE_BYTES;
 use profile::sizes::HASH_BYTES;
 use profile::sizes::KEY_BYTES;
 use profile::sizes::MOST_HASHES;
 use profile::sizes::MOST_PAYLOAD;
 use profile::sizes::MOST_SLOTS;
+ghost use mathlib.Core.Path.{_≡_};
+ghost use mathlib.Core.Bool.{_&&_};
+ghost use Rattle.profile.specs.Frame.{isFrame, versionHolds, body, Retrieve, Rek, List', Info};
+ghost use Rattle.profile.specs.Device.{none?, shaped};
 
 // The length of a reply with a key, the most bytes of handles in a list, and the longest reply of kind 9.
 const KEY_REPLY: usize = 4 + KEY_BYTES;

@@ -1,4 +1,13 @@
 // Replies written at the start of a lent buffer (PROFILE 3.2 and 3.4). The bytes of the buffer after the reply keep what they held.
+use profile::Count;
+use profile::sizes::HASH_BYTES;
+use profile::sizes::KEY_BYTES;
+use profile::slot::COUNT_AT;
+use profile::slot::HASHES_AT;
+use profile::slot::KEY_AT;
+use profile::slot::LENGTH_AT;
+use profile::slot::PAYLOAD_AT;
+use profile::status::SUCCESS;
 ghost use mathlib.Core.Path.{_≡_};
 ghost use mathlib.Core.List.{[], _∷_, _++_};
 ghost use Prim.Native.Nat.{_+_, _*_, _≤_, _<_};
@@ -10,15 +19,6 @@ ghost use Rattle.profile.specs.Frame.{frame};
 ghost use Rattle.profile.specs.Agent.{theRight, theKey, writeGiven};
 ghost use Rattle.buffers.specs.Over.{overAt};
 ghost use Rattle.reply_writer.specs.Written.{headOf, infoOf};
-use profile::Count;
-use profile::sizes::HASH_BYTES;
-use profile::sizes::KEY_BYTES;
-use profile::slot::COUNT_AT;
-use profile::slot::HASHES_AT;
-use profile::slot::KEY_AT;
-use profile::slot::LENGTH_AT;
-use profile::slot::PAYLOAD_AT;
-use profile::status::SUCCESS;
 
 // A key and a hash, as a body length counts them.
 const KEY_LENGTH: u16 = KEY_BYTES as u16;

@@ -1,13 +1,13 @@
 // The reader's answer: an enum of numbers and offsets, with the handles and the key beside it as arrays.
+use profile::Count;
+use profile::sizes::HANDLE_BYTES;
+use profile::sizes::KEY_BYTES;
 ghost use mathlib.Core.Path.{_≡_};
 ghost use Prim.Native.Nat.{_≤_};
 ghost use lib.ListN.{length};
 ghost use Rattle.profile.specs.Bytes.{zeros};
 ghost use Rattle.profile.specs.Sizes.{handleSize, keySize};
 ghost use Rattle.request_reader.specs.Asking.{refusal, oneHandle, twoHandles, installation, listQuery};
-use profile::Count;
-use profile::sizes::HANDLE_BYTES;
-use profile::sizes::KEY_BYTES;
 
 // Why a frame is no request: the number 104, or the status 1, 2 or 3 (PROFILE 4.1 and 4.3).
 pub enum Why {

@@ -1,4 +1,11 @@
 // The request reader (PROFILE 6.1): first 104, then the tests for all kinds (PROFILE 4.3), then the field tests of kinds 2 and 8.
+use crate::asked::Asked;
+use crate::asked::Body;
+use crate::asked::Why;
+use profile::sizes::HANDLE_BYTES;
+use profile::sizes::HASH_BYTES;
+use profile::sizes::MOST_HASHES;
+use profile::sizes::MOST_PAYLOAD;
 ghost use mathlib.Core.Path.{_≡_};
 ghost use Prim.Native.Nat.{_+_, _*_, _≤_};
 ghost use lib.ListN.{length};
@@ -9,13 +16,6 @@ ghost use Rattle.profile.specs.Bytes.{word};
 ghost use Rattle.request_reader.specs.Asking.{tested, oneHandle, twoHandles, ofInstall, ofList, ofKind, asked};
 ghost use Rattle.request_reader.specs.Answer.{Answers};
 ghost use Rattle.request_reader.specs.declared.asked.Body.the-variants as body;
-use crate::asked::Asked;
-use crate::asked::Body;
-use crate::asked::Why;
-use profile::sizes::HANDLE_BYTES;
-use profile::sizes::HASH_BYTES;
-use profile::sizes::MOST_HASHES;
-use profile::sizes::MOST_PAYLOAD;
 
 // The body length of kinds 3 and 4.
 const TWO_HANDLES: usize = 2 * HANDLE_BYTES;

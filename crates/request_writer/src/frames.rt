@@ -1,5 +1,11 @@
 // Requests written part by part (PROFILE 3.1 and 3.3): 201 where the buffer is shorter than the frame, and else the frame, with the
 // verdict 1. The rest of the buffer stays as found.
+use crate::given::Plain;
+use profile::Count;
+use profile::number::DONE;
+use profile::number::WRITER_BUFFER_SHORT;
+use profile::sizes::HANDLE_BYTES;
+use profile::sizes::KEY_BYTES;
 ghost use mathlib.Core.Path.{_≡_};
 ghost use mathlib.Core.List.{_∷_, [], _++_};
 ghost use Prim.Native.Nat.{_≤_, _<_};
@@ -10,12 +16,6 @@ ghost use Rattle.profile.specs.Sizes.{mostPayload, hashRoom};
 ghost use Rattle.profile.specs.Frame.{frame};
 ghost use Rattle.profile.specs.Device.{put};
 ghost use Rattle.request_writer.specs.Writing.{wrote, started, rightBody};
-use crate::given::Plain;
-use profile::Count;
-use profile::number::DONE;
-use profile::number::WRITER_BUFFER_SHORT;
-use profile::sizes::HANDLE_BYTES;
-use profile::sizes::KEY_BYTES;
 
 // A handle and two of them, as a body length counts them.
 const HANDLE_LENGTH: u16 = HANDLE_BYTES as u16;

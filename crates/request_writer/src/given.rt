@@ -1,4 +1,10 @@
 // The fields that the request writer is given (PROFILE 6.2), and the tests on them, which give 202.
+use profile::Count;
+use profile::sizes::HANDLE_BYTES;
+use profile::sizes::HASH_BYTES;
+use profile::sizes::KEY_BYTES;
+use profile::sizes::MOST_HASHES;
+use profile::sizes::MOST_PAYLOAD;
 ghost use mathlib.Core.Path.{_≡_};
 ghost use lib.ListN.{length};
 ghost use Rattle.profile.specs.Bytes.{allZero, from1to};
@@ -6,12 +12,6 @@ ghost use Rattle.profile.specs.Sizes.{mostPayload};
 ghost use Rattle.profile.specs.Frame.{kindOf};
 ghost use Rattle.profile.specs.Device.{none?, wholeHashes};
 ghost use Rattle.request_writer.specs.Writing.{fieldsOf, kindAllows};
-use profile::Count;
-use profile::sizes::HANDLE_BYTES;
-use profile::sizes::HASH_BYTES;
-use profile::sizes::KEY_BYTES;
-use profile::sizes::MOST_HASHES;
-use profile::sizes::MOST_PAYLOAD;
 
 // All fields but the hashes and the payload, which are lent and not copied. `room` is the length of kind 1.
 pub struct Plain {

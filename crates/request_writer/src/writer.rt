@@ -1,12 +1,12 @@
 // The request writer (PROFILE 6.2): 202, then 201, then the frame.
+use crate::given::Plain;
+use profile::number::WRITER_FIELDS;
+use profile::sizes::HASH_BYTES;
 ghost use mathlib.Core.Path.{_≡_};
 ghost use mathlib.Core.Bool.{true, _&&_};
 ghost use Rattle.profile.specs.Frame.{kindOf};
 ghost use Rattle.profile.specs.Device.{wholeHashes, writeKind, write};
 ghost use Rattle.request_writer.specs.Writing.{fieldsOf, kindAllows, wrote};
-use crate::given::Plain;
-use profile::number::WRITER_FIELDS;
-use profile::sizes::HASH_BYTES;
 
 // The parts of each kind, once its fields are allowed.
 fn write_kind(kind: u8, p: Plain, hashes: &[u8], payload: &[u8], out: &mut [u8]) -> u16
