@@ -6,7 +6,7 @@ use mathlib.Core.Bool.{true}
 use lib.ListN.{length, getD, drop}
 use Rattle.profile.specs.Bytes.{Bytes, part, pieces}
 use Rattle.profile.specs.Sizes.{hashSize, slotSize}
-use Rattle.profile.specs.Slot.{Count, Right}
+use Rattle.profile.specs.Slot.{Count, Right, rightWith}
 use Rattle.profile.specs.Table.{placeOf, wellSlot, slotCount, slotBytes, wholeSlots, wellTable}
 
 -- the bytes of slot i
@@ -27,5 +27,4 @@ pub record Placed (place : ℕ) (s : Bytes) : Type 0 where
 
 -- the right of a request whose n hashes and payload of m bytes follow each other in its frame, from an offset on
 abbrev pub rightFrom : Bytes → Count → ℕ → ℕ → Bytes → ℕ → Right
-rightFrom key count n m f at =
-    record { key = key; count = count; hashes = pieces hashSize n (drop at f); payload = part (at + hashSize * n) m f }
+rightFrom key count n m f at = rightWith key count (pieces hashSize n (drop at f)) (part (at + hashSize * n) m f)

@@ -5,7 +5,7 @@ use mathlib.Core.List.{List, [], _∷_, _++_, map}
 use mathlib.Core.Bool.{Bool, true, false}
 use lib.ListN.{take, replicate}
 use Rattle.profile.specs.Bytes.{Bytes, joined, pieces}
-use Rattle.profile.specs.Slot.{Right, recount, reserved, enabled, disabled, Slot, empty, taken}
+use Rattle.profile.specs.Slot.{Right, rightWith, recount, reserved, enabled, disabled, Slot, empty, taken}
 use Rattle.profile.specs.Frame.{Refusal, parameter, notFound, duplicate, unexpected, noSpace, twoRecords}
 use Rattle.profile.specs.Request.{Request, setup, install, retrieve, rek, enable, remove, cancel, list, info}
 use Rattle.profile.specs.Agent.{Given, nothing, theRight, theKey, handles, counted, Answer, deny, done, act, lowestEmpty, firstOf}
@@ -26,22 +26,22 @@ gives t q g u = record { slots = t; request = q; answer = done g u }
 
 -- ---- rights: with no hash, with A and B, with B alone, with eight hashes; a key of zeros; six bytes of payload
 abbrev pub plain : Right
-plain = record { key = K; count = 7; hashes = []; payload = five }
+plain = rightWith K 7 [] five
 
 abbrev pub both : Right
-both = record { key = L; count = 258; hashes = A ∷ B ∷ []; payload = hex "BC" }
+both = rightWith L 258 (A ∷ B ∷ []) (hex "BC")
 
 abbrev pub onlyB : Right
-onlyB = record { key = L; count = 258; hashes = B ∷ []; payload = hex "BC" }
+onlyB = rightWith L 258 (B ∷ []) (hex "BC")
 
 abbrev pub full8 : Right
-full8 = record { key = K; count = 0; hashes = pieces 20 8 eight; payload = five }
+full8 = rightWith K 0 (pieces 20 8 eight) five
 
 abbrev pub zeroKey : Right
-zeroKey = record { key = replicate 16 0x00; count = 7; hashes = []; payload = five }
+zeroKey = rightWith (replicate 16 0x00) 7 [] five
 
 abbrev pub six : Right
-six = record { key = K; count = 7; hashes = []; payload = hex "A1 A2 A3 A4 A5 A6" }
+six = rightWith K 7 [] (hex "A1 A2 A3 A4 A5 A6")
 
 -- ---- slots: H1 reserved, H2 enabled, H3 disabled; an empty one after them; and H1 in more than one slot
 abbrev pub full : List Slot
@@ -133,8 +133,8 @@ others =
     ∷ denies full (enable H1 3) unexpected
     ∷ gives full (enable H2 3) nothing full
     ∷ gives full (enable H3 3) nothing (taken H1 (reserved 5) ∷ taken H2 (enabled both) ∷ taken H3 (enabled (recount 3 plain)) ∷ [])
-    ∷ gives full (enable H3 0) nothing (taken H1 (reserved 5) ∷ taken H2 (enabled both) ∷ taken H3 (enabled (record { key = K; count = 0; hashes = []; payload = five })) ∷ [])
-    ∷ gives (taken H2 (disabled both) ∷ []) (enable H2 65535) nothing (taken H2 (enabled (record { key = L; count = 65535; hashes = A ∷ B ∷ []; payload = hex "BC" })) ∷ [])
+    ∷ gives full (enable H3 0) nothing (taken H1 (reserved 5) ∷ taken H2 (enabled both) ∷ taken H3 (enabled (rightWith K 0 [] five)) ∷ [])
+    ∷ gives (taken H2 (disabled both) ∷ []) (enable H2 65535) nothing (taken H2 (enabled (rightWith L 65535 (A ∷ B ∷ []) (hex "BC"))) ∷ [])
     -- 5.6
     ∷ denies twice (remove H1) twoRecords
     ∷ denies full (remove H4) notFound

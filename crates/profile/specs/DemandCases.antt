@@ -5,7 +5,7 @@ use mathlib.Core.List.{List, [], _∷_, _++_, map}
 use mathlib.Core.Bool.{true, false}
 use lib.ListN.{take, drop, replicate}
 use Rattle.profile.specs.Bytes.{Bytes}
-use Rattle.profile.specs.Slot.{reserved, enabled, empty, taken}
+use Rattle.profile.specs.Slot.{rightWith, reserved, enabled, empty, taken}
 use Rattle.profile.specs.Request.{install, rek, retrieve, enable, remove}
 use Rattle.profile.specs.Agent.{Call}
 use Rattle.profile.specs.History.{Owned, forUse, lent, gone, Ledger, blankLedger, Exchange}
@@ -56,10 +56,10 @@ pub record Hold : Type 0 where
   -- rights hold what was sent: not where there is none, where none was installed, or with another key, hash, payload or count
   pub lost : ¬ Contents (asking (install H1 plain) 0 ∷ []) blankLedger
   pub refused : ¬ Contents (asking (install H1 plain) 7 ∷ []) (ledgerOf (forUse H1 plain ∷ []))
-  pub other-key : ¬ Contents (asking (install H1 plain) 0 ∷ []) (ledgerOf (forUse H1 (record { key = L; count = 7; hashes = []; payload = five }) ∷ []))
-  pub other-hash : ¬ Contents (asking (install H1 plain) 0 ∷ []) (ledgerOf (forUse H1 (record { key = K; count = 7; hashes = A ∷ []; payload = five }) ∷ []))
-  pub other-payload : ¬ Contents (asking (install H1 plain) 0 ∷ []) (ledgerOf (lent H1 (record { key = K; count = 7; hashes = []; payload = hex "BC" }) ∷ []))
-  pub other-count : ¬ Contents (asking (install H1 plain) 0 ∷ []) (ledgerOf (gone (record { key = K; count = 8; hashes = []; payload = five }) ∷ []))
+  pub other-key : ¬ Contents (asking (install H1 plain) 0 ∷ []) (ledgerOf (forUse H1 (rightWith L 7 [] five) ∷ []))
+  pub other-hash : ¬ Contents (asking (install H1 plain) 0 ∷ []) (ledgerOf (forUse H1 (rightWith K 7 (A ∷ []) five) ∷ []))
+  pub other-payload : ¬ Contents (asking (install H1 plain) 0 ∷ []) (ledgerOf (lent H1 (rightWith K 7 [] (hex "BC")) ∷ []))
+  pub other-count : ¬ Contents (asking (install H1 plain) 0 ∷ []) (ledgerOf (gone (rightWith K 8 [] five) ∷ []))
   -- kinds 4 and 3 send a key
   pub by-rek : KeyOut after7 (calling (hex "24 80 00 14" ++ H1 ++ H2)) H1 H2
   pub by-retrieval : KeyOut hashed2 (calling (hex "23 80 00 14" ++ H3 ++ H4)) H3 H4

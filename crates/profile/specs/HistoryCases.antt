@@ -5,7 +5,7 @@ use mathlib.Core.List.{List, [], _∷_, _++_, map}
 use mathlib.Core.Option.{none, some}
 use lib.ListN.{take, replicate}
 use Rattle.profile.specs.Bytes.{Bytes}
-use Rattle.profile.specs.Slot.{Right, reserved, enabled, disabled, empty, taken}
+use Rattle.profile.specs.Slot.{Right, rightWith, reserved, enabled, disabled, empty, taken}
 use Rattle.profile.specs.Frame.{parameter}
 use Rattle.profile.specs.Request.{Request, setup, install, retrieve, rek, enable, remove, cancel, list, info, asks, refused, noFrame}
 use Rattle.profile.specs.Agent.{Call}
@@ -16,16 +16,16 @@ use Rattle.profile.specs.CaseTables.{blank, after9}
 
 -- a right, the same with the count 3, and another
 abbrev pub plain : Right
-plain = record { key = K; count = 7; hashes = []; payload = five }
+plain = rightWith K 7 [] five
 
 abbrev pub counted3 : Right
-counted3 = record { key = K; count = 3; hashes = []; payload = five }
+counted3 = rightWith K 3 [] five
 
 abbrev pub other : Right
-other = record { key = L; count = 258; hashes = A ∷ []; payload = hex "BC" }
+other = rightWith L 258 (A ∷ []) (hex "BC")
 
 abbrev pub other3 : Right
-other3 = record { key = L; count = 3; hashes = A ∷ []; payload = hex "BC" }
+other3 = rightWith L 3 (A ∷ []) (hex "BC")
 
 -- ---- one exchange after another state: two setups; a right for use under H1, one lent under H2, one gone
 abbrev pub before : Ledger

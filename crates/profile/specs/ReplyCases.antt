@@ -6,6 +6,7 @@ use mathlib.Core.List.{List, [], _∷_, _++_, map}
 use mathlib.Core.Bool.{true, false}
 use lib.ListN.{take, replicate}
 use Rattle.profile.specs.Bytes.{Bytes, joined}
+use Rattle.profile.specs.Slot.{rightWith}
 use Rattle.profile.specs.Frame.{integrity, parameter, unsupported, notFound, duplicate, unexpected, noSpace, twoRecords}
 use Rattle.profile.specs.Agent.{nothing, theRight, theKey, handles, counted, deny, done, Answer, replyFrame}
 use Rattle.profile.specs.Device.{Reply, malformed, failed, gave, readReply, sent}
@@ -118,7 +119,7 @@ abbrev pub right : String → Bytes → Bytes
 right middle rest = sized "23 00" (key ++ hex middle ++ rest)
 
 abbrev pub gives-right : List Bytes → Bytes → Reply
-gives-right hs payload = gave 3 (theRight (record { key = key; count = 0x3132; hashes = hs; payload = payload }))
+gives-right hs payload = gave 3 (theRight (rightWith key 0x3132 hs payload))
 
 unfoldable pub rights : List Case
 rights =
@@ -154,7 +155,7 @@ answers =
     ∷ (1, deny noSpace, hex "21 07 00 00")
     ∷ (6, deny twoRecords, hex "26 08 00 00")
     ∷ (7, done nothing [], hex "27 00 00 00")
-    ∷ (3, done (theRight (record { key = key; count = 0x3132; hashes = p ∷ q ∷ []; payload = hex "51 52" })) [], hex "23 00 00 3D" ++ key ++ hex "31 32 20" ++ p ++ q ++ hex "51 52")
+    ∷ (3, done (theRight (rightWith key 0x3132 (p ∷ q ∷ []) (hex "51 52"))) [], hex "23 00 00 3D" ++ key ++ hex "31 32 20" ++ p ++ q ++ hex "51 52")
     ∷ (4, done (theKey key) [], hex "24 00 00 10" ++ key)
     ∷ (8, done (handles true (h ∷ n ∷ [])) [], hex "28 00 00 15 80" ++ h ++ n)
     ∷ (8, done (handles false (h ∷ [])) [], hex "28 00 00 0B 00" ++ h)

@@ -6,6 +6,7 @@ use Prim.Native.Nat.{ℕ}
 use mathlib.Core.Bool.{Bool, true, false}
 use lib.ListN.{take, replicate}
 use Rattle.profile.specs.Bytes.{Bytes, joined}
+use Rattle.profile.specs.Slot.{rightWith}
 use Rattle.profile.specs.Frame.{Kind, Setup, Install, Retrieve, Rek, Enable, Remove, Cancel, List', Info, versionHolds, kindNumber, hashCountAt18, Refusal, integrity, parameter, unsupported}
 use Rattle.profile.specs.Request.{Request, setup, install, retrieve, rek, enable, remove, cancel, list, info}
 use Rattle.profile.specs.Request.{Read, asks, refused, noFrame, verdict, zeroBits, bodyFits, readRequest, writeRequest}
@@ -29,9 +30,9 @@ right head middle rest = sized head (h ++ key ++ hex middle ++ rest)
 unfoldable pub requests : List Case
 requests =
     reads (hex "21 80 00 0C" ++ h ++ hex "31 32") (setup h 0x3132)
-    ∷ reads (hex "22 80 00 1E" ++ h ++ key ++ hex "31 32 00 51") (install h (record { key = key; count = 0x3132; hashes = []; payload = hex "51" }))
-    ∷ reads (hex "22 80 00 33" ++ h ++ key ++ hex "31 32 10" ++ p ++ hex "51 52") (install h (record { key = key; count = 0x3132; hashes = p ∷ []; payload = hex "51 52" }))
-    ∷ reads (hex "22 80 00 47" ++ h ++ key ++ hex "00 00 20" ++ p ++ q ++ hex "00 52") (install h (record { key = key; count = 0; hashes = p ∷ q ∷ []; payload = hex "00 52" }))
+    ∷ reads (hex "22 80 00 1E" ++ h ++ key ++ hex "31 32 00 51") (install h (rightWith key 0x3132 [] (hex "51")))
+    ∷ reads (hex "22 80 00 33" ++ h ++ key ++ hex "31 32 10" ++ p ++ hex "51 52") (install h (rightWith key 0x3132 (p ∷ []) (hex "51 52")))
+    ∷ reads (hex "22 80 00 47" ++ h ++ key ++ hex "00 00 20" ++ p ++ q ++ hex "00 52") (install h (rightWith key 0 (p ∷ q ∷ []) (hex "00 52")))
     ∷ reads (hex "23 80 00 14" ++ h ++ n) (retrieve h n)
     ∷ reads (hex "24 80 00 14" ++ h ++ n) (rek h n)
     ∷ reads (hex "25 80 00 0C" ++ h ++ hex "31 32") (enable h 0x3132)
@@ -160,7 +161,7 @@ verdicts =
 unfoldable pub fieldTests : List Case
 fieldTests =
     -- 8 hashes, and more
-    reads (right "22 80" "31 32 80" (eight ++ hex "51")) (install h (record { key = key; count = 0x3132; hashes = eightHashes; payload = hex "51" }))
+    reads (right "22 80" "31 32 80" (eight ++ hex "51")) (install h (rightWith key 0x3132 eightHashes (hex "51")))
     ∷ refuses (right "22 80" "31 32 90" (eight ++ p ++ hex "51")) parameter
     ∷ refuses (right "22 80" "31 32 F0" (eight ++ eight ++ hex "51")) parameter
     -- the low half of the hash byte: each bit
@@ -171,14 +172,14 @@ fieldTests =
     ∷ refuses (right "22 80" "31 32 18" (p ++ hex "51 52")) parameter
     -- the payload: none, one byte, and hashes that overrun the body
     ∷ refuses (right "22 80" "31 32 10" p) parameter
-    ∷ reads (right "22 80" "31 32 10" (p ++ hex "51")) (install h (record { key = key; count = 0x3132; hashes = p ∷ []; payload = hex "51" }))
+    ∷ reads (right "22 80" "31 32 10" (p ++ hex "51")) (install h (rightWith key 0x3132 (p ∷ []) (hex "51")))
     ∷ refuses (right "22 80" "31 32 20" (p ++ take 19 q)) parameter
     ∷ refuses (right "22 80" "31 32 80" eight) parameter
     ∷ refuses (right "22 80" "31 32 10" (hex "51")) parameter
     -- 4,096 and 4,097 bytes
-    ∷ reads (right "22 80" "31 32 00" (replicate 4096 0x5A)) (install h (record { key = key; count = 0x3132; hashes = []; payload = replicate 4096 0x5A }))
+    ∷ reads (right "22 80" "31 32 00" (replicate 4096 0x5A)) (install h (rightWith key 0x3132 [] (replicate 4096 0x5A)))
     ∷ refuses (right "22 80" "31 32 00" (replicate 4097 0x5A)) parameter
-    ∷ reads (right "22 80" "31 32 80" (eight ++ replicate 4096 0x5A)) (install h (record { key = key; count = 0x3132; hashes = eightHashes; payload = replicate 4096 0x5A }))
+    ∷ reads (right "22 80" "31 32 80" (eight ++ replicate 4096 0x5A)) (install h (rightWith key 0x3132 eightHashes (replicate 4096 0x5A)))
     ∷ refuses (right "22 80" "31 32 80" (eight ++ replicate 4097 0x5A)) parameter
     -- kind 8: 8 hashes, and more; a body that does not end with its last hash
     ∷ reads (sized "28 80" (hex "01 00 08" ++ eight)) (list 256 eightHashes)

@@ -2,13 +2,13 @@
 use mathlib.Core.List.{List, [], _∷_}
 use lib.ListN.{replicate}
 use Rattle.profile.specs.Bytes.{Bytes}
-use Rattle.profile.specs.Slot.{Right, reserved, enabled, disabled, empty, taken, RightFits, SlotFits, TableFits}
+use Rattle.profile.specs.Slot.{Right, rightWith, reserved, enabled, disabled, empty, taken, RightFits, SlotFits, TableFits}
 use Rattle.profile.specs.Request.{setup, install, retrieve, rek, enable, remove, cancel, list, info, RequestFits}
 use Rattle.profile.specs.CaseBytes.{hex, H1, H2, K, A, B}
 
 -- a right of these
 abbrev pub of : Bytes → List Bytes → Bytes → Right
-of key hashes payload = record { key = key; count = 7; hashes = hashes; payload = payload }
+of key hashes payload = rightWith key 7 hashes payload
 
 -- the least right, and the greatest
 abbrev pub least : Right

@@ -5,7 +5,7 @@ use mathlib.Core.List.{List, [], _∷_, _++_, map}
 use mathlib.Core.Bool.{Bool, true, false}
 use lib.ListN.{replicate}
 use Rattle.profile.specs.Bytes.{Bytes}
-use Rattle.profile.specs.Slot.{Right, recount, reserved, enabled, disabled, Slot, empty, taken, inUse, distinct}
+use Rattle.profile.specs.Slot.{Right, rightWith, recount, reserved, enabled, disabled, Slot, empty, taken, inUse, distinct}
 use Rattle.profile.specs.Table.{placeOf, hashCountOf, spareOf, unpack, pack, slotsOf, tableOf, wholeSlots, wellSlot, wellTable}
 use Rattle.profile.specs.CaseBytes.{hex, changed, H0, H1, H2, H3, H1-last, H1-first, K, L, A, B, five}
 use Rattle.profile.specs.CaseTables.{blank, after1, after7, after9, after11, roomy, longest, hashed1, hashed2, lent2, hashed8, nameless, keyless, twins}
@@ -110,7 +110,7 @@ tables =
 
 -- ---- PROFILE 2.5: the same of slots told without their bytes: whatever their places, and wherever they stand
 abbrev pub plain : Right
-plain = record { key = K; count = 7; hashes = A ∷ []; payload = five }
+plain = rightWith K 7 (A ∷ []) five
 
 unfoldable pub handles : List (List Slot × Bool)
 handles =
@@ -134,12 +134,12 @@ slots =
     ∷ (after1, taken H1 (reserved 5))
     ∷ (roomy, taken H1 (reserved 4096))
     ∷ (nameless, taken H0 (reserved 5))
-    ∷ (after7, taken H1 (enabled (record { key = K; count = 7; hashes = []; payload = five })))
-    ∷ (after9, taken H2 (disabled (record { key = K; count = 7; hashes = []; payload = five })))
-    ∷ (hashed1, taken H3 (enabled (record { key = L; count = 258; hashes = A ∷ []; payload = hex "BC" })))
-    ∷ (hashed2, taken H3 (enabled (record { key = L; count = 258; hashes = A ∷ B ∷ []; payload = hex "BC" })))
-    ∷ (lent2, taken H3 (disabled (record { key = L; count = 258; hashes = A ∷ B ∷ []; payload = hex "BC" })))
-    ∷ (longest, taken H1 (enabled (record { key = K; count = 7; hashes = []; payload = replicate 4096 0x5A })))
+    ∷ (after7, taken H1 (enabled (rightWith K 7 [] five)))
+    ∷ (after9, taken H2 (disabled (rightWith K 7 [] five)))
+    ∷ (hashed1, taken H3 (enabled (rightWith L 258 (A ∷ []) (hex "BC"))))
+    ∷ (hashed2, taken H3 (enabled (rightWith L 258 (A ∷ B ∷ []) (hex "BC"))))
+    ∷ (lent2, taken H3 (disabled (rightWith L 258 (A ∷ B ∷ []) (hex "BC"))))
+    ∷ (longest, taken H1 (enabled (rightWith K 7 [] (replicate 4096 0x5A))))
     ∷ []
 
 -- ---- these are what the definitions say
@@ -152,7 +152,7 @@ pub record Hold : Type 0 where
   pub in-use : map (λ h. inUse h (taken H1 (reserved 5) ∷ empty ∷ taken H2 (enabled plain) ∷ taken H3 (disabled plain) ∷ [])) (H1 ∷ H2 ∷ H3 ∷ H1-last ∷ H0 ∷ [])
       ≡ true ∷ true ∷ true ∷ false ∷ false ∷ []
   -- a right with another count
-  pub recounted : recount 3 plain ≡ record { key = K; count = 3; hashes = A ∷ []; payload = five }
+  pub recounted : recount 3 plain ≡ rightWith K 3 (A ∷ []) five
   -- PROFILE 2.2, byte 0: place, hash count, spare bits
   pub places : map (λ b. placeOf (b ∷ [])) (0x3F ∷ 0x40 ∷ 0x80 ∷ 0xC0 ∷ []) ≡ 0 ∷ 1 ∷ 2 ∷ 3 ∷ []
   pub counts : map (λ b. hashCountOf (b ∷ [])) (0xC3 ∷ 0x04 ∷ 0xE0 ∷ 0x3C ∷ []) ≡ 0 ∷ 1 ∷ 8 ∷ 15 ∷ []

@@ -7,6 +7,7 @@ use lib.ListN.{length, drop, replicate}
 use lib.Dec.{eqb, ltb}
 use Rattle.profile.specs.Bytes.{Bytes, if_then_else_, byte, part, word, pieces}
 use Rattle.profile.specs.Sizes.{handleSize, keySize, hashSize, notAReply}
+use Rattle.profile.specs.Slot.{rightWith}
 use Rattle.profile.specs.Frame.{Kind, Setup, Install, Retrieve, Rek, Enable, Remove, Cancel, List', Info, kindOf, lastStatus, isFrame, versionHolds, kindNumber, body, statusIn}
 use Rattle.profile.specs.Agent.{nothing, theRight, theKey, handles, counted}
 use Rattle.profile.specs.Device.{none?, shaped, Reply, malformed, failed, gave, readReply}
@@ -35,7 +36,7 @@ abbrev pub meant : Bytes → Bytes → Answer → Reply
 meant f key Malformed = malformed
 meant f key (Failed kind status) = failed kind status
 meant f key (Nothing kind) = gave kind nothing
-meant f key (Right count n hashes at size) = gave 3 (theRight (record { key = key; count = count; hashes = pieces hashSize n (drop hashes f); payload = part at size f }))
+meant f key (Right count n hashes at size) = gave 3 (theRight (rightWith key count (pieces hashSize n (drop hashes f)) (part at size f)))
 meant f key Key = gave 4 (theKey key)
 meant f key (Handles more n at) = gave 8 (handles more (pieces handleSize n (drop at f)))
 meant f key (Counted count at size) = gave 9 (counted count (part at size f))

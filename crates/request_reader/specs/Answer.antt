@@ -4,7 +4,7 @@ use mathlib.Core.Path.{_≡_}
 use lib.ListN.{length, drop}
 use Rattle.profile.specs.Bytes.{Bytes, part, pieces}
 use Rattle.profile.specs.Sizes.{mostPayload, handleSize, keySize, hashSize, mostHashes}
-use Rattle.profile.specs.Slot.{Count, Right}
+use Rattle.profile.specs.Slot.{Count, Right, rightWith}
 use Rattle.profile.specs.Frame.{integrity, parameter, unsupported}
 use Rattle.profile.specs.Request.{Request, setup, install, retrieve, rek, enable, remove, cancel, list, info, Read, asks, refused, noFrame, readRequest}
 use Rattle.request_reader.specs.declared.asked.Why.{Why}
@@ -28,7 +28,7 @@ abbrev pub hashesIn : Bytes → ℕ → ℕ → mathlib.Core.List.List Bytes
 hashesIn f n at = pieces hashSize n (drop at f)
 
 abbrev pub rightIn : Bytes → Bytes → Count → ℕ → ℕ → ℕ → Right
-rightIn f key c n at len = record { key = key; count = c; hashes = hashesIn f n at; payload = part (at + hashSize * n) len f }
+rightIn f key c n at len = rightWith key c (hashesIn f n at) (part (at + hashSize * n) len f)
 
 abbrev pub bodyMeans : Bytes → Body → Asked → Request
 bodyMeans f (Setup n) r = setup (r .handle) n
