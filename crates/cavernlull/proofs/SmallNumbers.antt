@@ -8,7 +8,7 @@ use lib.Dec.{eqb, leb, ltb}
 use lib.ListN.{length}
 use Rattle.profile.specs.Bytes.{Bytes, byte}
 use Rattle.profile.specs.Sizes.{mostSlots, mostPayload, handleSize, mostHashes}
-use Rattle.profile.specs.Frame.{Kind, Setup, Install, Retrieve, Rek, Enable, Remove, Cancel, List', Info, kindOf, lastStatus, isFrame, versionHolds, kindNumber, body, statusIn}
+use Rattle.profile.specs.Frame.{Kind, Setup, Install, Retrieve, Rek, Enable, Remove, Cancel, List', Info, kindOf, isStatus, isFrame, versionHolds, kindNumber, body, statusIn}
 use Rattle.profile.specs.Device.{none?, shaped}
 use Rattle.profile.proofs.Logic.{and-parts, leb-le, if-both, if-cases}
 use Rattle.reply_reader.specs.declared.answer.Told.{Told}
@@ -62,7 +62,7 @@ module _ (f : Bytes) where
   unfolding told keyless
   told-small =
       if-both SmallTold (not (isFrame f && versionHolds f)) tt
-      (if-both SmallTold (ltb lastStatus (statusIn f)) tt
+      (if-both SmallTold (not (isStatus (statusIn f))) tt
       (if-both SmallTold (eqb (statusIn f) 0) (of-success (kindOf (kindNumber f)))
       (if-both SmallTold (none? (body f)) tt tt)))
 

@@ -9,18 +9,18 @@ use Rattle.profile.specs.Bytes.{Bytes, part, Bytes256}
 use Rattle.profile.specs.Sizes.{slotSize}
 use Rattle.profile.specs.Slot.{Right, Entry, reserved, enabled, disabled, Slot}
 use Rattle.profile.specs.Table.{placeOf, handleOf, slotsOf}
-use Rattle.profile.specs.Frame.{notFound, duplicate, unexpected, twoRecords, code}
-use Rattle.profile.specs.Agent.{Answer, deny, onRecord}
+use Rattle.profile.specs.Frame.{notFound, duplicate, unexpected, code}
+use Rattle.profile.specs.Agent.{Answer, deny, one, find, whenFound}
 use Rattle.profile.proofs.Strings.{bytes-take, bytes-drop}
 use Rattle.slots.specs.declared.place.Place.{Place}
 use Rattle.slots.specs.declared.place.Place.the-variants.{Empty, Reserved, Enabled, Disabled}
 use Rattle.tables.specs.declared.lookup.Lookup.{Lookup}
-use Rattle.tables.specs.declared.lookup.Lookup.the-variants.{Absent, Two, At}
+use Rattle.tables.specs.declared.lookup.Lookup.the-variants.{Absent, At}
 use Rattle.slots.specs.Places.{placeNumber, placeOfEntry}
-use Rattle.tables.specs.LookUp.{lookUp}
+use Rattle.tables.specs.LookUp.{foundAt}
 use Rattle.tables.proofs.SlotParts.{getD-slots}
 use Rattle.slots.proofs.Unpacking.{empty-taken, same-handle, unpack-empty, unpack-taken}
-use Rattle.tables.proofs.Records.{Standing, RecordAt, RecordFits, entryOf, absent-denied, two-denied, at-stands, record-at, record-fits, none-empty}
+use Rattle.tables.proofs.Records.{Standing, RecordAt, RecordFits, entryOf, absent-found, at-stands, record-at, record-fits, none-empty}
 use Rattle.changes.specs.Change.{slotAt, Has}
 use Rattle.changes.proofs.Standing.{taken-place}
 use Rattle.decisions.specs.declared.decision.Takes.{Takes}
@@ -68,34 +68,32 @@ expects w f a b c i (enabled r) q = b q i r
 expects w f a b c i (disabled r) q = c q i r
 
 module _ (h : Bytes) (u : List Slot) (w : Takes) (f : ℕ → Entry → Answer) where
-  pub refuses : Expects w f → (d : Decision) → d ≡ decided w (lookUp h u) → (n : ℕ) → d ≡ Refuse n → Denied n (onRecord u h f)
+  pub refuses : Expects w f → (d : Decision) → d ≡ decided w (foundAt (find h u)) → (n : ℕ) → d ≡ Refuse n → Denied n (whenFound (find h u) f)
   unfolding decided
-  refuses x d e n q = go (lookUp h u) refl (sym e ∙ q)
+  refuses x d e n q = go (foundAt (find h u)) refl (sym e ∙ q)
     where
-      placed : (i : ℕ) (p : Place) (b : Bool) → lookUp h u ≡ At i p → takesPlace w p ≡ b → decided w (At i p) ≡ Refuse n → Denied n (onRecord u h f)
+      placed : (i : ℕ) (p : Place) (b : Bool) → foundAt (find h u) ≡ At i p → takesPlace w p ≡ b → decided w (At i p) ≡ Refuse n → Denied n (whenFound (find h u) f)
       placed i p true l t q = absurd (take-refuse (rw t at q))
       placed i p false l t q =
           let s : Standing h u i p = at-stands h u i p l in
-          record { refusal = unexpected; numbered = refused-is (rw t at q); answer = s .acted-on f ∙ x i (s .entry) (ap (takesPlace w) (s .placed) ∙ t) }
+          record { refusal = unexpected; numbered = refused-is (rw t at q); answer = rw (s .found) (x i (s .entry) (ap (takesPlace w) (s .placed) ∙ t)) }
 
-      go : (l : Lookup) → lookUp h u ≡ l → decided w l ≡ Refuse n → Denied n (onRecord u h f)
-      go Absent l q = record { refusal = notFound; numbered = refused-is q; answer = absent-denied h u l f }
-      go Two l q = record { refusal = twoRecords; numbered = refused-is q; answer = two-denied h u l f }
+      go : (l : Lookup) → foundAt (find h u) ≡ l → decided w l ≡ Refuse n → Denied n (whenFound (find h u) f)
+      go Absent l q = record { refusal = notFound; numbered = refused-is q; answer = rw (absent-found h u l) }
       go (At i p) l q = placed i p (takesPlace w p) l refl q
 
 -- ---- not refused: the record was found, at a place that the request takes
 module _ (h : Bytes) (u : List Slot) (w : Takes) (i : ℕ) (o : Place) where
-  pub stands : decided w (lookUp h u) ≡ Take i o → (lookUp h u ≡ At i o) × (takesPlace w o ≡ true)
+  pub stands : decided w (foundAt (find h u)) ≡ Take i o → (foundAt (find h u) ≡ At i o) × (takesPlace w o ≡ true)
   unfolding decided
-  stands d = go (lookUp h u) refl d
+  stands d = go (foundAt (find h u)) refl d
     where
-      placed : (j : ℕ) (p : Place) (b : Bool) → lookUp h u ≡ At j p → takesPlace w p ≡ b → decided w (At j p) ≡ Take i o → (lookUp h u ≡ At i o) × (takesPlace w o ≡ true)
+      placed : (j : ℕ) (p : Place) (b : Bool) → foundAt (find h u) ≡ At j p → takesPlace w p ≡ b → decided w (At j p) ≡ Take i o → (foundAt (find h u) ≡ At i o) × (takesPlace w o ≡ true)
       placed j p true l t q = let e : Take j p ≡ Take i o = rw t at q in (l ∙ taken-is e, ap (takesPlace w) (sym (placed-is e)) ∙ t)
       placed j p false l t q = absurd (take-refuse (sym (rw t at q)))
 
-      go : (l : Lookup) → lookUp h u ≡ l → decided w l ≡ Take i o → (lookUp h u ≡ At i o) × (takesPlace w o ≡ true)
+      go : (l : Lookup) → foundAt (find h u) ≡ l → decided w l ≡ Take i o → (foundAt (find h u) ≡ At i o) × (takesPlace w o ≡ true)
       go Absent l q = absurd (take-refuse (sym q))
-      go Two l q = absurd (take-refuse (sym q))
       go (At j p) l q = placed j p (takesPlace w p) l refl q
 
 -- the slot of a record that was found, by its bytes
@@ -105,20 +103,20 @@ pub record Held (T h : Bytes) (i : ℕ) (p : Place) : Type 0 where
   pub place-is : placeOf (slotAt T i) ≡ placeNumber p
   pub handle-is : handleOf (slotAt T i) ≡ h
   pub fits : RecordFits (slotAt T i)
-  pub acted-on : (f : ℕ → Entry → Answer) → onRecord (slotsOf T) h f ≡ f i (entryOf p (slotAt T i))
+  pub found : find h (slotsOf T) ≡ one i (entryOf p (slotAt T i))
 
 module _ (T B h : Bytes) (bytes : Bytes256 T) (r : Ready T B) (i : ℕ) where
   abbrev s : Bytes
   s = part (slotSize * i) slotSize T
 
-  pub held : (p : Place) → lookUp h (slotsOf T) ≡ At i p → Held T h i p
+  pub held : (p : Place) → foundAt (find h (slotsOf T)) ≡ At i p → Held T h i p
   held p l = record {
     has = record { whole = r .whole; well = r .well; inside = a .below };
     lent = sym there;
     place-is = rw there (number p l);
     handle-is = rw there (same-handle (sym (unpack-taken s not-empty .1) ∙ a .unpacked));
     fits = rw there (record-fits T h i (entryOf p s) (r .well) a);
-    acted-on = rw there (a .acted-on);
+    found = rw there (a .found);
   }
     where
       a : RecordAt T h i (entryOf p s)
@@ -133,7 +131,7 @@ module _ (T B h : Bytes) (bytes : Bytes256 T) (r : Ready T B) (i : ℕ) where
       s-bytes : Bytes256 s
       s-bytes = bytes-take slotSize (drop (slotSize * i) T) (bytes-drop (slotSize * i) T bytes)
 
-      number : (p : Place) → lookUp h (slotsOf T) ≡ At i p → placeOf s ≡ placeNumber p
+      number : (p : Place) → foundAt (find h (slotsOf T)) ≡ At i p → placeOf s ≡ placeNumber p
       number Empty l = absurd (none-empty T h i l)
       number Reserved l = taken-place s s-bytes h (entryOf Reserved s) (record-at T h i Reserved l .unpacked)
       number Enabled l = taken-place s s-bytes h (entryOf Enabled s) (record-at T h i Enabled l .unpacked)
@@ -154,13 +152,13 @@ only-enabled Disabled q = absurd (false≢true q)
 
 -- ---- not refused: the record in slot i, at a place that the request takes
 module _ (T B h : Bytes) (bytes : Bytes256 T) (r : Ready T B) (d : Decision) where
-  pub chosen : (w : Takes) → d ≡ decided w (lookUp h (slotsOf T)) → (i : ℕ) (o : Place) → d ≡ Take i o → Held T h i o × (takesPlace w o ≡ true)
+  pub chosen : (w : Takes) → d ≡ decided w (foundAt (find h (slotsOf T))) → (i : ℕ) (o : Place) → d ≡ Take i o → Held T h i o × (takesPlace w o ≡ true)
   chosen w e i o q = let s = stands h (slotsOf T) w i o (sym e ∙ q) in (held T B h bytes r i o (s .0), s .1)
 
-  pub chosen-reserved : d ≡ decided awaited (lookUp h (slotsOf T)) → (i : ℕ) (o : Place) → d ≡ Take i o → Held T h i Reserved
+  pub chosen-reserved : d ≡ decided awaited (foundAt (find h (slotsOf T))) → (i : ℕ) (o : Place) → d ≡ Take i o → Held T h i Reserved
   chosen-reserved e i o q = let s = chosen awaited e i o q in rw (only-reserved o (s .1)) at (s .0)
 
-  pub chosen-enabled : d ≡ decided lendable (lookUp h (slotsOf T)) → (i : ℕ) (o : Place) → d ≡ Take i o → Held T h i Enabled
+  pub chosen-enabled : d ≡ decided lendable (foundAt (find h (slotsOf T))) → (i : ℕ) (o : Place) → d ≡ Take i o → Held T h i Enabled
   chosen-enabled e i o q = let s = chosen lendable e i o q in rw (only-enabled o (s .1)) at (s .0)
 
 -- what is known of a slot's bytes is known of those lent

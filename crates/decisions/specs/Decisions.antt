@@ -1,11 +1,11 @@
 -- What is decided of a request on the record under its handle, before anything is changed.
 use mathlib.Core.Bool.{Bool, true, false}
 use Rattle.profile.specs.Bytes.{if_then_else_}
-use Rattle.profile.specs.Frame.{notFound, duplicate, unexpected, twoRecords, code}
+use Rattle.profile.specs.Frame.{notFound, duplicate, unexpected, code}
 use Rattle.slots.specs.declared.place.Place.{Place}
 use Rattle.slots.specs.declared.place.Place.the-variants.{Empty, Reserved, Enabled, Disabled}
 use Rattle.tables.specs.declared.lookup.Lookup.{Lookup}
-use Rattle.tables.specs.declared.lookup.Lookup.the-variants.{Absent, Two, At}
+use Rattle.tables.specs.declared.lookup.Lookup.the-variants.{Absent, At}
 use Rattle.decisions.specs.declared.decision.Takes.{Takes}
 use Rattle.decisions.specs.declared.decision.Decision.{Decision}
 use Rattle.decisions.specs.declared.decision.Decision.the-variants.{Refuse, Take}
@@ -17,10 +17,9 @@ takesPlace w Reserved = w .reserved
 takesPlace w Enabled = w .enabled
 takesPlace w Disabled = w .disabled
 
--- PROFILE 4.2: 8 and 4 by the look-up; 6 by the place
+-- PROFILE 4.2: 4 by the look-up; 6 by the place
 unfoldable pub decided : Takes → Lookup → Decision
 decided w Absent = Refuse (code notFound)
-decided w Two = Refuse (code twoRecords)
 decided w (At i p) = if takesPlace w p then Take i p else Refuse (code unexpected)
 
 -- the places that the kinds take: 2 and 7; 3, 4 and 9; 5 and 6

@@ -1,13 +1,13 @@
 // The record under a request's handle, and whether the request takes a record of its place. Nothing here writes.
 use profile::sizes::HANDLE_BYTES;
 use profile::status::HANDLE_NOT_FOUND;
-use profile::status::TWO_RECORDS;
 use profile::status::UNEXPECTED_REQUEST;
 use slots::place::Place;
 use tables::lookup::Lookup;
 ghost use mathlib.Core.Path.{_≡_};
 ghost use Rattle.profile.specs.Table.{slotsOf};
-ghost use Rattle.tables.specs.LookUp.{lookUp};
+ghost use Rattle.profile.specs.Agent.{find};
+ghost use Rattle.tables.specs.LookUp.{foundAt};
 ghost use Rattle.decisions.specs.Decisions.{takesPlace, decided};
 
 // Refused with a status; or taken: the slot of the record, and the record's place.
@@ -56,13 +56,12 @@ pub fn takes_place(takes: Takes, place: Place) -> bool
     }
 }
 
-// PROFILE 4.2. Status 8 for a handle in two slots, 4 for one in none, and 6 for a record of a place that is not taken.
+// PROFILE 4.2. Status 4 for a handle in no slot, and 6 for a record of a place that is not taken.
 pub fn slot_under(table: &[u8], h: [u8; HANDLE_BYTES], takes: Takes) -> Decision
-    ensures { λ r. ⌜ r ≡ decided takes (lookUp h (slotsOf (now (table .entry)))) ⌝ }
+    ensures { λ r. ⌜ r ≡ decided takes (foundAt (find h (slotsOf (now (table .entry))))) ⌝ }
 {
     match tables::lookup::look_up(table, h) {
         Lookup::Absent => Decision::Refuse(HANDLE_NOT_FOUND),
-        Lookup::Two => Decision::Refuse(TWO_RECORDS),
         Lookup::At(i, place) => if takes_place(takes, place) {
             Decision::Take(i, place)
         } else {

@@ -1,5 +1,5 @@
 -- PROFILE 2.5: every call leaves a well-formed table well formed, not only one that began blank.
-use Prim.Native.Nat.{ℕ, suc, _%_, _≤_}
+use Prim.Native.Nat.{_%_, _≤_}
 use mathlib.Core.Path.{_≡_, refl, sym, ap, _∙_}
 use mathlib.Core.List.{List, [], _∷_, _++_, map}
 use mathlib.Core.Bool.{Bool, true, false}
@@ -10,11 +10,11 @@ use Rattle.profile.specs.Bytes.{Bytes, if_then_else_, same, from1to, joi
 use Rattle.profile.specs.Sizes.{slotSize}
 use Rattle.profile.specs.Slot.{Entry, reserved, enabled, disabled, Slot, empty, taken, distinct}
 use Rattle.profile.specs.Table.{slotCount, slotsOf, wholeSlots, wellTable}
-use Rattle.profile.specs.Agent.{times, Call, agent}
+use Rattle.profile.specs.Agent.{Call, agent}
 use Rattle.profile.specs.History.{Opened, open-setup, Owned, forUse, lent, Ledger}
 use Rattle.profile.specs.Run.{underSlot, underSetup, underRight, underSlots, underLedger, Agrees}
 use Rattle.profile.proofs.Logic.{and-parts, from-1-to-says}
-use Rattle.profile.proofs.Lookup.{times-distinct}
+use Rattle.profile.proofs.Lookup.{under-once}
 use Rattle.profile.proofs.Tables.{table-slots}
 use Rattle.profile.proofs.WellFormed.{table-fits, table-distinct, count-slots, few-slots}
 use Rattle.profile.proofs.Sound.{Sound, sound-call, sound-well}
@@ -34,16 +34,6 @@ rightIn (taken h (disabled r)) = lent h r ∷ []
 
 abbrev pub ledgerOf : List Slot → Ledger
 ledgerOf t = record { setups = joined (map setupIn t); rights = joined (map rightIn t) }
-
--- where the handles are distinct, at most one record stands under each
-one-more : (b : Bool) (e : Entry) (xs : List Entry) (n : ℕ) → length xs ≡ n → length ((if b then e ∷ [] else []) ++ xs) ≡ (if b then suc n else n)
-one-more true e xs n p = ap suc p
-one-more false e xs n p = p
-
-pub count-under : (h : Bytes) (t : List Slot) → length (underSlots h t) ≡ times h t
-count-under h [] = refl
-count-under h (empty ∷ t) = count-under h t
-count-under h (taken k e ∷ t) = one-more (same h k) e (underSlots h t) (times h t) (count-under h t)
 
 -- a right before the setups that follow it: none of them has its handle
 past-setups : (a b c : List Entry) → length (a ++ (b ++ c)) ≤ 1 → a ++ (b ++ c) ≡ b ++ (a ++ c)
@@ -75,9 +65,7 @@ under-ledger h (taken k (enabled r) ∷ t) o = right-first h (taken k (enabled r
 under-ledger h (taken k (disabled r) ∷ t) o = right-first h (taken k (disabled r)) t o (under-ledger h t (fewer h (taken k (disabled r)) t o))
 
 pub table-agrees : (t : List Slot) → distinct t ≡ true → Agrees (ledgerOf t) t
-table-agrees t d =
-    let once : (h : Bytes) → length (underSlots h t) ≤ 1 = λ h. rw (count-under h t) (times-distinct h t d) in
-    record { each = λ h. under-ledger h t (once h); once = once }
+table-agrees t d = record { each = λ h. under-ledger h t (under-once h t d); once = λ h. under-once h t d }
 
 -- ---- on the bytes
 module _ (table : Bytes) (bytes : Bytes256 table) (whole : wholeSlots table ≡ true) (well : wellTable table ≡ true) where

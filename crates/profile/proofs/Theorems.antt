@@ -11,14 +11,14 @@ use Rattle.profile.proofs.Pack.{unpack-pack}
 use Rattle.profile.proofs.Unpack.{pack-unpack}
 use Rattle.profile.proofs.Tables.{slots-table, table-slots, well-table, whole-table}
 use Rattle.profile.proofs.WellFormed.{table-fits, table-distinct}
-use Rattle.profile.proofs.Lookup.{times-distinct}
+use Rattle.profile.proofs.Lookup.{under-once}
 use Rattle.profile.proofs.Frames.{reads}
 use Rattle.profile.proofs.Requests.{read-fits, read-write}
 use Rattle.profile.proofs.Writer.{written-reads}
 use Rattle.profile.proofs.WrittenAgain.{written-again}
 use Rattle.profile.proofs.Replies.{replies-read}
-use Rattle.profile.proofs.Statuses.{never-8}
-use Rattle.profile.proofs.AnyTable.{count-under, stays-well}
+use Rattle.profile.proofs.Statuses.{statuses, never-8, never-read-8}
+use Rattle.profile.proofs.AnyTable.{stays-well}
 use Rattle.profile.proofs.Laws.{apart, apart-distinct, refuses, found-is, sets-lowest, sets-only}
 use Rattle.profile.proofs.ListLaws.{lists-exactly, lists-only}
 use Rattle.profile.proofs.BytesCases.{bytes-hold}
@@ -38,7 +38,7 @@ packs : (t : List Slot) → TableFits t → distinct t ≡ true → 1 ≤ length
 packs t f d some few =
     record {
       whole = whole-table t f some few;
-      well = well-table t f (λ h. rw (count-under h t) (times-distinct h t d));
+      well = well-table t f (λ h. under-once h t d);
       again = slots-table t f;
     }
 
@@ -58,6 +58,8 @@ theorems =
       replies-read = replies-read;
       refuses = refuses;
       never-8 = never-8;
+      statuses = statuses;
+      never-read-8 = never-read-8;
       stays-well = λ table y whole well c. let s = stays-well table y whole well c in record { whole = s .0; well = s .1 };
       found-is = found-is;
       sets-lowest = sets-lowest;

@@ -6,7 +6,7 @@ use mathlib.Core.Bool.{Bool, true, false}
 use lib.ListN.{take, replicate}
 use Rattle.profile.specs.Bytes.{Bytes, joined, pieces}
 use Rattle.profile.specs.Slot.{Right, rightWith, recount, reserved, enabled, disabled, Slot, empty, taken}
-use Rattle.profile.specs.Frame.{Refusal, parameter, notFound, duplicate, unexpected, noSpace, twoRecords}
+use Rattle.profile.specs.Frame.{Refusal, parameter, notFound, duplicate, unexpected, noSpace}
 use Rattle.profile.specs.Request.{Request, setup, install, retrieve, rek, enable, remove, cancel, list, info}
 use Rattle.profile.specs.Agent.{Given, nothing, theRight, theKey, handles, counted, Answer, deny, done, act, lowestEmpty, firstOf}
 use Rattle.profile.specs.CaseBytes.{hex, counting, H1, H2, H3, H4, H1-last, K, L, A, B, A-last, A-first, eight, five}
@@ -43,18 +43,12 @@ zeroKey = rightWith (replicate 16 0x00) 7 [] five
 abbrev pub six : Right
 six = rightWith K 7 [] (hex "A1 A2 A3 A4 A5 A6")
 
--- ---- slots: H1 reserved, H2 enabled, H3 disabled; an empty one after them; and H1 in more than one slot
+-- ---- slots: H1 reserved, H2 enabled, H3 disabled; an empty one after them
 abbrev pub full : List Slot
 full = taken H1 (reserved 5) ∷ taken H2 (enabled both) ∷ taken H3 (disabled plain) ∷ []
 
 abbrev pub spare : List Slot
 spare = taken H1 (reserved 5) ∷ taken H2 (enabled both) ∷ taken H3 (disabled plain) ∷ empty ∷ []
-
-abbrev pub twice : List Slot
-twice = taken H1 (reserved 5) ∷ empty ∷ taken H1 (enabled plain) ∷ taken H2 (enabled both) ∷ []
-
-abbrev pub thrice : List Slot
-thrice = taken H1 (disabled plain) ∷ taken H1 (enabled both) ∷ taken H1 (enabled plain) ∷ []
 
 -- ---- PROFILE 5.1
 unfoldable pub setups : List Case
@@ -83,11 +77,8 @@ setups =
 -- ---- PROFILE 5.2
 unfoldable pub installations : List Case
 installations =
-    -- status 8 comes before 4, 6 and 7
-    denies twice (install H1 plain) twoRecords
-    ∷ denies thrice (install H1 plain) twoRecords
     -- an absent handle; a record that is not reserved; a payload longer than its room
-    ∷ denies full (install H4 plain) notFound
+    denies full (install H4 plain) notFound
     ∷ denies (empty ∷ []) (install H1 plain) notFound
     ∷ denies full (install H2 plain) unexpected
     ∷ denies full (install H3 six) unexpected
@@ -99,10 +90,8 @@ installations =
 -- ---- PROFILE 5.3 and 5.4
 unfoldable pub lendings : List Case
 lendings =
-    denies twice (retrieve H1 H4) twoRecords
-    ∷ denies thrice (rek H1 H1) twoRecords
     -- an absent handle; a record that is not enabled: before a new handle in use
-    ∷ denies full (retrieve H4 H1) notFound
+    denies full (retrieve H4 H1) notFound
     ∷ denies full (rek H4 H1) notFound
     ∷ denies full (retrieve H1 H2) unexpected
     ∷ denies full (rek H1 H2) unexpected
@@ -118,7 +107,6 @@ lendings =
     ∷ denies full (rek H2 H2) duplicate
     ∷ denies full (retrieve H2 H3) duplicate
     ∷ denies full (rek H2 H3) duplicate
-    ∷ denies twice (rek H2 H1) duplicate
     -- the record is disabled under the new handle, and nothing else changes
     ∷ gives full (retrieve H2 H4) (theRight both) (taken H1 (reserved 5) ∷ taken H4 (disabled both) ∷ taken H3 (disabled plain) ∷ [])
     ∷ gives full (rek H2 H4) (theKey L) (taken H1 (reserved 5) ∷ taken H4 (disabled both) ∷ taken H3 (disabled plain) ∷ [])
@@ -128,32 +116,27 @@ lendings =
 unfoldable pub others : List Case
 others =
     -- 5.5
-    denies twice (enable H1 3) twoRecords
-    ∷ denies full (enable H4 3) notFound
+    denies full (enable H4 3) notFound
     ∷ denies full (enable H1 3) unexpected
     ∷ gives full (enable H2 3) nothing full
     ∷ gives full (enable H3 3) nothing (taken H1 (reserved 5) ∷ taken H2 (enabled both) ∷ taken H3 (enabled (recount 3 plain)) ∷ [])
     ∷ gives full (enable H3 0) nothing (taken H1 (reserved 5) ∷ taken H2 (enabled both) ∷ taken H3 (enabled (rightWith K 0 [] five)) ∷ [])
     ∷ gives (taken H2 (disabled both) ∷ []) (enable H2 65535) nothing (taken H2 (enabled (rightWith L 65535 (A ∷ B ∷ []) (hex "BC"))) ∷ [])
     -- 5.6
-    ∷ denies twice (remove H1) twoRecords
     ∷ denies full (remove H4) notFound
     ∷ denies full (remove H1) unexpected
     ∷ gives full (remove H2) nothing (taken H1 (reserved 5) ∷ empty ∷ taken H3 (disabled plain) ∷ [])
     ∷ gives full (remove H3) nothing (taken H1 (reserved 5) ∷ taken H2 (enabled both) ∷ empty ∷ [])
     -- 5.7
-    ∷ denies twice (cancel H1) twoRecords
     ∷ denies full (cancel H4) notFound
     ∷ denies full (cancel H2) unexpected
     ∷ denies full (cancel H3) unexpected
     ∷ gives full (cancel H1) nothing (empty ∷ taken H2 (enabled both) ∷ taken H3 (disabled plain) ∷ [])
     -- 5.9
-    ∷ denies twice (info H1) twoRecords
     ∷ denies full (info H4) notFound
     ∷ denies full (info H1) unexpected
     ∷ denies full (info H3) unexpected
     ∷ gives full (info H2) (counted 258 (hex "BC")) full
-    ∷ gives twice (info H2) (counted 258 (hex "BC")) twice
     ∷ []
 
 -- ---- PROFILE 5.8: empty, H1 with no hash, reserved, H3 with A and B, disabled with A and B, H2 with B
@@ -226,5 +209,5 @@ cases = joined (setups ∷ installations ∷ lendings ∷ others ∷ listings �
 pub record Hold : Type 0 where
   pub acts : map (λ c. act (lowestEmpty (c .slots)) (c .slots) (c .request)) cases ≡ map (λ c. c .answer) cases
   -- PROFILE 5.1: the lowest empty slot; with none empty, the number of slots
-  pub lowest : map lowestEmpty ([] ∷ full ∷ spare ∷ (empty ∷ full) ∷ twice ∷ []) ≡ 0 ∷ 3 ∷ 3 ∷ 0 ∷ 1 ∷ []
+  pub lowest : map lowestEmpty ([] ∷ full ∷ spare ∷ (empty ∷ full) ∷ (taken H1 (reserved 5) ∷ empty ∷ full) ∷ []) ≡ 0 ∷ 3 ∷ 3 ∷ 0 ∷ 1 ∷ []
   pub firsts : map (λ l. firstOf (l .0) (pieces 10 15 fifteenHandles)) limits ≡ map (λ l. handles (l .2) (take (l .1) (pieces 10 15 fifteenHandles))) limits

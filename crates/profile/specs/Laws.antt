@@ -9,7 +9,7 @@ use lib.Dec.{eqb}
 use lib.ListN.{length, getElem?, set}
 use Rattle.profile.specs.Bytes.{Bytes, In, over}
 use Rattle.profile.specs.Slot.{Right, Entry, reserved, enabled, disabled, Slot, empty, taken}
-use Rattle.profile.specs.Frame.{kindNumber, statusIn}
+use Rattle.profile.specs.Frame.{Refusal, code, kindNumber, statusIn}
 use Rattle.profile.specs.Agent.{Given, handles, Found, absent, one, Call, Outcome}
 
 -- ---- PROFILE 2.5
@@ -23,6 +23,10 @@ pub record Refuses (table : Bytes) (c : Call) (o : Outcome) : Type 0 where
   pub by-number : eqb (o .number) 0 ≡ false → (o .reply ≡ c .buffer) × (o .table ≡ table)
   pub by-status : eqb (o .number) 0 ≡ true → eqb (statusIn (o .reply)) 0 ≡ false
       → (o .reply ≡ over ((32 + kindNumber (c .request)) ∷ statusIn (o .reply) ∷ 0 ∷ 0 ∷ []) (c .buffer)) × (o .table ≡ table)
+
+-- PROFILE 4.2: a status is 0, or the number of a refusal
+abbrev pub AStatus : ℕ → Type 0
+AStatus s = (s ≡ 0) ⊎ ((r : Refusal) × (code r ≡ s))
 
 -- a handle is found in a slot that has it, and is absent where no slot has it
 abbrev pub FoundIs : Bytes → List Slot → Found → Type 0

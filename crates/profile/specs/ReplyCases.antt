@@ -7,7 +7,7 @@ use mathlib.Core.Bool.{true, false}
 use lib.ListN.{take, replicate}
 use Rattle.profile.specs.Bytes.{Bytes, joined}
 use Rattle.profile.specs.Slot.{rightWith}
-use Rattle.profile.specs.Frame.{integrity, parameter, unsupported, notFound, duplicate, unexpected, noSpace, twoRecords}
+use Rattle.profile.specs.Frame.{integrity, parameter, unsupported, notFound, duplicate, unexpected, noSpace}
 use Rattle.profile.specs.Agent.{nothing, theRight, theKey, handles, counted, deny, done, Answer, replyFrame}
 use Rattle.profile.specs.Device.{Reply, malformed, failed, gave, readReply, sent}
 use Rattle.profile.specs.CaseBytes.{hex, counting, sized, h, n, key, p, q, eight, eightHashes}
@@ -28,7 +28,7 @@ plain kind f = (f, gave kind nothing)
 abbrev pub fifteen : List Bytes
 fifteen = map (λ i. i ∷ replicate 9 0x07) (counting 0x01 15)
 
--- ---- whole frames, of version 1, with a status of 0 to 8
+-- ---- whole frames, of version 1, with a status of 0 to 7
 unfoldable pub heads : List Case
 heads =
     -- length
@@ -54,15 +54,27 @@ heads =
     ∷ (hex "25 05 00 00", failed 5 5)
     ∷ (hex "26 06 00 00", failed 6 6)
     ∷ (hex "27 07 00 00", failed 7 7)
-    ∷ (hex "28 08 00 00", failed 8 8)
+    ∷ (hex "28 07 00 00", failed 8 7)
     ∷ (hex "29 01 00 00", failed 9 1)
+    -- 8 is none, whatever the kind
+    ∷ bad (hex "20 08 00 00")
+    ∷ bad (hex "21 08 00 00")
+    ∷ bad (hex "22 08 00 00")
+    ∷ bad (hex "23 08 00 00")
+    ∷ bad (hex "24 08 00 00")
+    ∷ bad (hex "25 08 00 00")
+    ∷ bad (hex "26 08 00 00")
+    ∷ bad (hex "27 08 00 00")
+    ∷ bad (hex "28 08 00 00")
+    ∷ bad (hex "29 08 00 00")
+    ∷ bad (hex "3F 08 00 00")
     ∷ bad (hex "21 09 00 00")
     ∷ bad (hex "21 10 00 00")
     ∷ bad (hex "21 FF 00 00")
     -- a body is refused where the status is not 0
     ∷ bad (hex "21 05 00 01 00")
     ∷ bad (hex "24 04 00 10" ++ key)
-    ∷ bad (hex "28 08 00 01 00")
+    ∷ bad (hex "28 07 00 01 00")
     -- only kinds 1 to 9 succeed; refusals of other kinds are read
     ∷ bad (hex "20 00 00 00")
     ∷ bad (hex "2A 00 00 00")
@@ -153,7 +165,6 @@ answers =
     ∷ (3, deny duplicate, hex "23 05 00 00")
     ∷ (5, deny unexpected, hex "25 06 00 00")
     ∷ (1, deny noSpace, hex "21 07 00 00")
-    ∷ (6, deny twoRecords, hex "26 08 00 00")
     ∷ (7, done nothing [], hex "27 00 00 00")
     ∷ (3, done (theRight (rightWith key 0x3132 (p ∷ q ∷ []) (hex "51 52"))) [], hex "23 00 00 3D" ++ key ++ hex "31 32 20" ++ p ++ q ++ hex "51 52")
     ∷ (4, done (theKey key) [], hex "24 00 00 10" ++ key)

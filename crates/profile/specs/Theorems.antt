@@ -12,10 +12,10 @@ use Rattle.profile.specs.Bytes.{Bytes, Bytes256, over, all}
 use Rattle.profile.specs.Sizes.{slotSize, replyRoom}
 use Rattle.profile.specs.Slot.{reserved, Slot, taken, distinct, SlotFits, TableFits}
 use Rattle.profile.specs.Table.{unpack, pack, wellSlot, slotsOf, tableOf, wholeSlots, wellTable}
-use Rattle.profile.specs.Frame.{Kind, kindOf, kindNumber, statusIn}
+use Rattle.profile.specs.Frame.{Kind, kindOf, isStatus, kindNumber, statusIn}
 use Rattle.profile.specs.Request.{Request, setup, list, asks, readRequest, writeRequest, withVerdict, RequestFits}
 use Rattle.profile.specs.Agent.{Given, Answer, done, find, act, lowestEmpty, replyFrame, Call, Outcome, replied, agent}
-use Rattle.profile.specs.Device.{Fields, requestOf, fieldsIn, Arrays, Written, write, readReply, sent}
+use Rattle.profile.specs.Device.{Fields, requestOf, fieldsIn, Arrays, Written, write, malformed, readReply, sent}
 use Rattle.profile.specs.BytesCases
 use Rattle.profile.specs.SizeCases
 use Rattle.profile.specs.TableCases
@@ -28,7 +28,7 @@ use Rattle.profile.specs.ListingCases
 use Rattle.profile.specs.HistoryCases
 use Rattle.profile.specs.DemandCases
 use Rattle.profile.specs.Demand3.{Demand3}
-use Rattle.profile.specs.Laws.{Apart, Refuses, FoundIs, SetsLowest, ListsExactly}
+use Rattle.profile.specs.Laws.{Apart, Refuses, AStatus, FoundIs, SetsLowest, ListsExactly}
 
 -- ---- the words of the theorems below
 -- the slots that a well-formed table holds: of their sizes, their handles distinct, and packed they are the table
@@ -87,9 +87,12 @@ pub record Theorems : Type 0 where
   pub written-again : (f : Bytes) (q : Request) → Bytes256 f → readRequest f ≡ asks q → (buffer : Bytes) → length f ≤ length buffer → WrittenAgain f q buffer
   -- PROFILE 6.4: every reply is read back
   pub replies-read : (table : Bytes) (c : Call) → eqb (agent table c .number) 0 ≡ true → Readable table c (agent table c)
-  -- PROFILE 4: refusals change nothing; status 8 is never sent. PROFILE 2.5: a well-formed table stays so
+  -- PROFILE 4: refusals change nothing; the statuses are those of the refusals, and 0; 8 is never sent, and is read in no reply
   pub refuses : (table : Bytes) (c : Call) → Refuses table c (agent table c)
   pub never-8 : (table : Bytes) (c : Call) → eqb (agent table c .number) 0 ≡ true → eqb (statusIn (agent table c .reply)) 8 ≡ false
+  pub statuses : (s : ℕ) → (isStatus s ≡ true) ↔ AStatus s
+  pub never-read-8 : (f : Bytes) → statusIn f ≡ 8 → readReply f ≡ malformed
+  -- PROFILE 2.5: a well-formed table stays so
   pub stays-well : (table : Bytes) → Bytes256 table → wholeSlots table ≡ true → wellTable table ≡ true → (c : Call) → Stays (agent table c .table)
   -- PROFILE 5: the slot found under a handle, the slot that a setup takes, the handles listed; no other slot and no other list meets these laws
   pub found-is : (h : Bytes) (t : List Slot) → FoundIs h t (find h t)

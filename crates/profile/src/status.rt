@@ -14,8 +14,3 @@ pub const DUPLICATE_HANDLE: u8 = 5;
 pub const UNEXPECTED_REQUEST: u8 = 6;
 
 pub const NOT_ENOUGH_SPACE: u8 = 7;
-
-pub const TWO_RECORDS: u8 = 8;
-
-// The greatest status that a reply may have.
-pub const LAST: u8 = 8;

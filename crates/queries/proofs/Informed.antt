@@ -1,6 +1,6 @@
 -- Kind 9: the agent's reply, by what was decided. Assumes nothing.
 use Prim.Native.Nat.{ℕ, _*_}
-use mathlib.Core.Path.{_≡_, refl, sym, _∙_}
+use mathlib.Core.Path.{_≡_, refl}
 use mathlib.Core.List.{[]}
 use mathlib.Core.Bool.{true≢false}
 use Rattle.profile.specs.Bytes.{Bytes, part, over}
@@ -9,10 +9,10 @@ use Rattle.profile.specs.Slot.{Entry}
 use Rattle.profile.specs.Table.{rightOf, slotsOf, tableOf}
 use Rattle.profile.specs.Frame.{frame}
 use Rattle.profile.specs.Request.{info}
-use Rattle.profile.specs.Agent.{Answer, infoAt, act, writeGiven}
+use Rattle.profile.specs.Agent.{Answer, find, infoAt, act, writeGiven}
 use Rattle.reply_writer.specs.Written.{infoOf}
 use Rattle.slots.specs.declared.place.Place.the-variants.{Enabled}
-use Rattle.tables.specs.LookUp.{lookUp}
+use Rattle.tables.specs.LookUp.{foundAt}
 use Rattle.decisions.specs.declared.decision.Decision.{Decision}
 use Rattle.decisions.specs.declared.decision.Decision.the-variants.{Refuse}
 use Rattle.decisions.specs.Decisions.{lendable, decided}
@@ -25,7 +25,7 @@ module _ (t b h : Bytes) where
   abbrev told : ℕ → Entry → Answer
   told = infoAt (slotsOf t)
 
-  pub info-refused : (d : Decision) → d ≡ decided lendable (lookUp h (slotsOf t)) → (n : ℕ) → d ≡ Refuse n
+  pub info-refused : (d : Decision) → d ≡ decided lendable (foundAt (find h (slotsOf t))) → (n : ℕ) → d ≡ Refuse n
       → (r : Bytes) → r ≡ over (frame 9 n []) b → r ≡ replyTo 9 (info h) t b
   unfolding act
   info-refused d e n q r x =
@@ -37,5 +37,5 @@ module _ (t b h : Bytes) where
       → (r : Bytes) → r ≡ over (frame 9 0 (writeGiven (infoOf (rightOf s)))) b → r ≡ replyTo 9 (info h) t b
   unfolding act
   info-done i w s es r x =
-      let d : Serves 9 (answerTo t (info h)) t b (tableOf (slotsOf t)) r = done-serves {g = infoOf (rightOf s)} (w .acted-on told ∙ rw (← w .lent, ← es)) refl x in
+      let d : Serves 9 (answerTo t (info h)) t b (tableOf (slotsOf t)) r = done-serves {g = infoOf (rightOf s)} (rw (w .found, ← w .lent, ← es)) refl x in
       d .reply-is

@@ -3,13 +3,11 @@ use Prim.Native.Nat.{ℕ}
 use mathlib.Core.Path.{_≡_, refl}
 use mathlib.Core.List.{List}
 use mathlib.Core.Bool.{true}
-use lib.Dec.{ltb}
 use Rattle.profile.specs.Bytes.{Bytes, Bytes256}
 use Rattle.profile.specs.Slot.{Entry, reserved, enabled, disabled}
 use Rattle.profile.specs.Table.{slotsOf, wholeSlots, wellTable}
 use Rattle.profile.specs.Request.{list, info}
-use Rattle.profile.specs.Agent.{Answer, Found, absent, one, find, times, whenFound, infoAt, act, tableAfter}
-use Rattle.profile.proofs.Logic.{if-both}
+use Rattle.profile.specs.Agent.{Found, absent, one, find, whenFound, infoAt, act, tableAfter}
 use Rattle.profile.proofs.Tables.{table-slots}
 use Rattle.decisions.specs.Serving.{answerTo}
 
@@ -20,7 +18,7 @@ module _ (table : Bytes) (bytes : Bytes256 table) (whole : wholeSlots table ≡ 
 
   pub info-keeps : (h : Bytes) → tableAfter table (answerTo table (info h)) ≡ table
   unfolding act
-  info-keeps h = if-both (λ (a : Answer). tableAfter table a ≡ table) (ltb 1 (times h (slotsOf table))) refl (by-found (find h (slotsOf table)))
+  info-keeps h = by-found (find h (slotsOf table))
     where
       by-entry : (i : ℕ) (e : Entry) → tableAfter table (infoAt (slotsOf table) i e) ≡ table
       by-entry i (reserved n) = refl

@@ -1,6 +1,6 @@
 -- What is cleared, and what the agent's kinds 6 and 7 are in its terms. Assumes nothing.
 use Prim.Native.Nat.{ℕ}
-use mathlib.Core.Path.{_≡_, refl, ap, _∙_}
+use mathlib.Core.Path.{_≡_, refl, ap}
 use mathlib.Core.List.{List}
 use mathlib.Core.Bool.{true, false≢true}
 use lib.ListN.{set}
@@ -8,7 +8,7 @@ use Rattle.profile.specs.Bytes.{Bytes}
 use Rattle.profile.specs.Slot.{Entry, reserved, enabled, disabled, Slot, empty}
 use Rattle.profile.specs.Table.{slotsOf}
 use Rattle.profile.specs.Request.{remove, cancel}
-use Rattle.profile.specs.Agent.{nothing, done, onRecord, removeAt, cancelAt, act}
+use Rattle.profile.specs.Agent.{nothing, done, find, whenFound, removeAt, cancelAt, act}
 use Rattle.slots.specs.declared.place.Place.{Place}
 use Rattle.slots.specs.declared.place.Place.the-variants.{Empty, Reserved, Enabled, Disabled}
 use Rattle.decisions.specs.declared.decision.Takes.{Takes}
@@ -21,26 +21,26 @@ pub clear-expects : (w : Takes) (u : List Slot) → Expects w (clearAt w u)
 clear-expects w u i e q = rw q
 
 module _ (w : Takes) (T h : Bytes) (i : ℕ) where
-  pub cleared : (o : Place) → Held T h i o × (takesPlace w o ≡ true) → onRecord (slotsOf T) h (clearAt w (slotsOf T)) ≡ done nothing (set (slotsOf T) i empty)
+  pub cleared : (o : Place) → Held T h i o × (takesPlace w o ≡ true) → whenFound (find h (slotsOf T)) (clearAt w (slotsOf T)) ≡ done nothing (set (slotsOf T) i empty)
   cleared Empty s = absurd (false≢true (s .1))
-  cleared Reserved s = s .0 .acted-on (clearAt w (slotsOf T)) ∙ rw (s .1)
-  cleared Enabled s = s .0 .acted-on (clearAt w (slotsOf T)) ∙ rw (s .1)
-  cleared Disabled s = s .0 .acted-on (clearAt w (slotsOf T)) ∙ rw (s .1)
+  cleared Reserved s = rw (s .0 .found, s .1)
+  cleared Enabled s = rw (s .0 .found, s .1)
+  cleared Disabled s = rw (s .0 .found, s .1)
 
 -- kind 6 takes a record that is installed, kind 7 one that is reserved
 module _ {T B T' B' : Bytes} (h : Bytes) where
-  pub removed : Serves 6 (onRecord (slotsOf T) h (clearAt installed (slotsOf T))) T B T' B' → Serves 6 (answerTo T (remove h)) T B T' B'
+  pub removed : Serves 6 (whenFound (find h (slotsOf T)) (clearAt installed (slotsOf T))) T B T' B' → Serves 6 (answerTo T (remove h)) T B T' B'
   unfolding act
-  removed s = rw (ap (onRecord (slotsOf T) h) (λ x i e. same i e x)) at s
+  removed s = rw (ap (whenFound (find h (slotsOf T))) (λ x i e. same i e x)) at s
     where
       same : (i : ℕ) (e : Entry) → clearAt installed (slotsOf T) i e ≡ removeAt (slotsOf T) i e
       same i (reserved n) = refl
       same i (enabled r) = refl
       same i (disabled r) = refl
 
-  pub cancelled : Serves 7 (onRecord (slotsOf T) h (clearAt awaited (slotsOf T))) T B T' B' → Serves 7 (answerTo T (cancel h)) T B T' B'
+  pub cancelled : Serves 7 (whenFound (find h (slotsOf T)) (clearAt awaited (slotsOf T))) T B T' B' → Serves 7 (answerTo T (cancel h)) T B T' B'
   unfolding act
-  cancelled s = rw (ap (onRecord (slotsOf T) h) (λ x i e. same i e x)) at s
+  cancelled s = rw (ap (whenFound (find h (slotsOf T))) (λ x i e. same i e x)) at s
     where
       same : (i : ℕ) (e : Entry) → clearAt awaited (slotsOf T) i e ≡ cancelAt (slotsOf T) i e
       same i (reserved n) = refl

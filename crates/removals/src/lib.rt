@@ -5,7 +5,7 @@ use profile::sizes::HANDLE_BYTES;
 use profile::status::SUCCESS;
 ghost use Prim.Native.Nat.{_<_};
 ghost use Rattle.profile.specs.Table.{slotsOf};
-ghost use Rattle.profile.specs.Agent.{onRecord};
+ghost use Rattle.profile.specs.Agent.{find, whenFound};
 ghost use Rattle.decisions.specs.Serving.{Ready, Serves};
 ghost use Rattle.removals.specs.Clearing.{clearAt};
 
@@ -13,7 +13,7 @@ ghost use Rattle.removals.specs.Clearing.{clearAt};
 // every byte of its slot becomes 0, and the slot may be reserved again at once.
 pub fn clear(table: &mut [u8], reply: &mut [u8], h: [u8; HANDLE_BYTES], kind: u8, takes: Takes)
     requires { ⌜ Ready (now table) (now reply) × (kind < 32) ⌝ }
-    ensures { λ _. ⌜ Serves kind (onRecord (slotsOf (now (table .entry))) h (clearAt takes (slotsOf (now (table .entry))))) (now (table .entry)) (now (reply .entry)) (now (table .exit)) (now (reply .exit)) ⌝ }
+    ensures { λ _. ⌜ Serves kind (whenFound (find h (slotsOf (now (table .entry)))) (clearAt takes (slotsOf (now (table .entry))))) (now (table .entry)) (now (reply .entry)) (now (table .exit)) (now (reply .exit)) ⌝ }
 {
     match decisions::decision::slot_under(table, h, takes) {
         Decision::Refuse(status) => reply_writer::writer::reply_status(reply, kind, status),

@@ -5,13 +5,13 @@ use mathlib.Core.Option.{Option, none, some}
 use mathlib.Core.Bool.{Bool, true, false, _&&_, not}
 use Prim.Native.Nat.{ℕ, _+_, _-_, _*_, _/_, _%_}
 use native.Mathlib.Omega.{arith}
-use lib.Dec.{eqb, ltb}
+use lib.Dec.{eqb}
 use lib.ListN.{length, drop, length-drop}
 use lib.Seq.{drop-drop, take-all}
 use Rattle.profile.specs.Bytes.{Bytes, if_then_else_, byte, part, word, pieces}
 use Rattle.profile.specs.Sizes.{handleSize, keySize, hashSize}
 use Rattle.profile.specs.Slot.{Count}
-use Rattle.profile.specs.Frame.{Kind, Setup, Install, Retrieve, Rek, Enable, Remove, Cancel, List', Info, kindOf, lastStatus, isFrame, versionHolds, kindNumber, body, statusIn, hashCountAt18}
+use Rattle.profile.specs.Frame.{Kind, Setup, Install, Retrieve, Rek, Enable, Remove, Cancel, List', Info, kindOf, isStatus, isFrame, versionHolds, kindNumber, body, statusIn, hashCountAt18}
 use Rattle.profile.specs.Request.{numberOf, fields}
 use Rattle.profile.specs.Agent.{Given, nothing, theRight, theKey, handles, counted}
 use Rattle.profile.specs.Device.{none?, shaped, given, gave, readSuccess, readReply}
@@ -97,7 +97,7 @@ module _ (f : Bytes) where
   unfolding told readReply keyless
   told-means =
       if-map (meaning f) (not (isFrame f && versionHolds f)) (λ _. refl) λ _.
-      if-map (meaning f) (ltb lastStatus (statusIn f)) (λ _. refl) λ _.
+      if-map (meaning f) (not (isStatus (statusIn f))) (λ _. refl) λ _.
       if-map (meaning f) (eqb (statusIn f) 0) (λ _. of-success (kindOf (kindNumber f)) refl) λ _.
       if-map (meaning f) (none? (body f)) (λ _. refl) (λ _. refl)
 

@@ -3,12 +3,12 @@ use mathlib.Core.Path.{_≡_, refl, sym, ap, _∙_}
 use mathlib.Core.List.{List, [], _∷_}
 use mathlib.Core.Option.{Option, none, some}
 use mathlib.Core.Bool.{Bool, true, false, _&&_, not}
-use Prim.Native.Nat.{ℕ, zero, suc, _≤_, _<_}
+use Prim.Native.Nat.{ℕ, zero, suc, _<_}
 use native.Mathlib.Omega.{arith}
 use lib.ListN.{List·getD-eq-default}
-use borrow.Author.Tests.{eq-eqb, ne-eqb, lt-ltb, le-ltb, not-true, not-false}
+use borrow.Author.Tests.{eq-eqb, ne-eqb, not-true, not-false}
 use Rattle.profile.specs.Bytes.{Bytes}
-use Rattle.profile.specs.Frame.{Kind, Setup, Install, Retrieve, Rek, Enable, Remove, Cancel, List', Info, kindOf, lastStatus, isFrame, versionHolds, kindNumber, body, statusIn}
+use Rattle.profile.specs.Frame.{Kind, Setup, Install, Retrieve, Rek, Enable, Remove, Cancel, List', Info, kindOf, isStatus, isFrame, versionHolds, kindNumber, body, statusIn}
 use Rattle.profile.specs.Device.{none?, shaped}
 use Rattle.reply_reader.specs.declared.answer.Answer.{Answer}
 use Rattle.reply_reader.specs.declared.answer.Answer.the-variants.{Failed}
@@ -63,14 +63,16 @@ module _ (f : Bytes) {p : Bool} {r : Told} (e : p ≡ (isFrame f && versionHolds
   unfolding told
   told-no-frame h q = q ∙ rw (failed-test e h)
 
-  pub told-no-status : not p ≡ false → lastStatus < statusIn f → r ≡ unread → r ≡ told f
-  unfolding told
-  told-no-status h s q = q ∙ rw (passed e h, lt-ltb lastStatus (statusIn f) s)
+  module _ {s : Bool} (h : not p ≡ false) (a : s ≡ isStatus (statusIn f)) where
+    pub told-no-status : not s ≡ true → r ≡ unread → r ≡ told f
+    unfolding told
+    told-no-status b q = q ∙ rw (passed e h, failed-test a b)
 
-  pub told-success : {k : ℕ} → not p ≡ false → statusIn f ≤ lastStatus → statusIn f ≡ 0 → k ≡ kindNumber f → r ≡ toldSuccess (kindOf k) f → r ≡ told f
-  unfolding told
-  told-success h s z n q = q ∙ rw (passed e h, le-ltb lastStatus (statusIn f) s, eq-eqb (statusIn f) 0 z, n)
+    module _ {k : ℕ} (b : not s ≡ false) (n : k ≡ kindNumber f) where
+      pub told-success : statusIn f ≡ 0 → r ≡ toldSuccess (kindOf k) f → r ≡ told f
+      unfolding told
+      told-success z q = q ∙ rw (passed e h, passed a b, eq-eqb (statusIn f) 0 z, n)
 
-  pub told-failed : {k : ℕ} → not p ≡ false → statusIn f ≤ lastStatus → (statusIn f ≡ 0 → ⊥) → k ≡ kindNumber f → r ≡ toldEmpty (Failed k (statusIn f)) f → r ≡ told f
-  unfolding told
-  told-failed h s z n q = q ∙ rw (passed e h, le-ltb lastStatus (statusIn f) s, ne-eqb (statusIn f) 0 z, n)
+      pub told-failed : (statusIn f ≡ 0 → ⊥) → r ≡ toldEmpty (Failed k (statusIn f)) f → r ≡ told f
+      unfolding told
+      told-failed z q = q ∙ rw (passed e h, passed a b, ne-eqb (statusIn f) 0 z, n)

@@ -4,11 +4,11 @@ use mathlib.Core.Path.{_≡_}
 use mathlib.Core.Option.{Option, none, some}
 use mathlib.Core.Bool.{_&&_, not}
 use lib.ListN.{length, drop, replicate}
-use lib.Dec.{eqb, ltb}
+use lib.Dec.{eqb}
 use Rattle.profile.specs.Bytes.{Bytes, if_then_else_, byte, part, word, pieces}
 use Rattle.profile.specs.Sizes.{handleSize, keySize, hashSize, notAReply}
 use Rattle.profile.specs.Slot.{rightWith}
-use Rattle.profile.specs.Frame.{Kind, Setup, Install, Retrieve, Rek, Enable, Remove, Cancel, List', Info, kindOf, lastStatus, isFrame, versionHolds, kindNumber, body, statusIn}
+use Rattle.profile.specs.Frame.{Kind, Setup, Install, Retrieve, Rek, Enable, Remove, Cancel, List', Info, kindOf, isStatus, isFrame, versionHolds, kindNumber, body, statusIn}
 use Rattle.profile.specs.Agent.{nothing, theRight, theKey, handles, counted}
 use Rattle.profile.specs.Device.{none?, shaped, Reply, malformed, failed, gave, readReply}
 use Rattle.reply_reader.specs.declared.answer.Answer.{Answer}
@@ -100,7 +100,7 @@ toldEmpty a f = if none? (body f) then keyless a else unread
 unfoldable pub told : Bytes → Told
 told f =
     if not (isFrame f && versionHolds f) then unread
-    else if ltb lastStatus (statusIn f) then unread
+    else if not (isStatus (statusIn f)) then unread
     else if eqb (statusIn f) 0 then toldSuccess (kindOf (kindNumber f)) f
     else toldEmpty (Failed (kindNumber f) (statusIn f)) f
 

@@ -1,11 +1,10 @@
-// A reply read (PROFILE 6.3). It is refused with 203 unless its length, version and zero bits are right, its status is 0 to 8, and its
-// body is of its kind's shape at success and empty at every other status.
+// A reply read (PROFILE 6.3). It is refused with 203 unless its length, version and zero bits are right, its status is one of the
+// profile's, and its body is of its kind's shape at success and empty at every other status.
 use crate::answer::Answer;
 use crate::answer::Told;
 use profile::sizes::HANDLE_BYTES;
 use profile::sizes::HASH_BYTES;
 use profile::sizes::KEY_BYTES;
-use profile::status::LAST;
 use profile::status::SUCCESS;
 ghost use mathlib.Core.Path.{_≡_};
 ghost use Prim.Native.Nat.{_+_, _≤_};
@@ -162,7 +161,7 @@ fn tell(f: &[u8]) -> Told
     }
     let kind = bits::fields::frame_kind(f[0]);
     let status = f[1];
-    if status > LAST {
+    if !crate::shape::is_status(status) {
         return malformed();
     }
     if status == SUCCESS {

@@ -5,9 +5,10 @@ use profile::sizes::KEY_BYTES;
 use profile::sizes::MOST_HASHES;
 use profile::sizes::MOST_PAYLOAD;
 use profile::sizes::MOST_SLOTS;
+use profile::status::NOT_ENOUGH_SPACE;
 ghost use mathlib.Core.Path.{_≡_};
 ghost use mathlib.Core.Bool.{_&&_};
-ghost use Rattle.profile.specs.Frame.{isFrame, versionHolds, body, Retrieve, Rek, List', Info};
+ghost use Rattle.profile.specs.Frame.{isStatus, isFrame, versionHolds, body, Retrieve, Rek, List', Info};
 ghost use Rattle.profile.specs.Device.{none?, shaped};
 
 // The length of a reply with a key, the most bytes of handles in a list, and the longest reply of kind 9.
@@ -40,6 +41,13 @@ pub fn is_reply(f: &[u8]) -> bool
     }
     let n = wide16(words::word_at(f, 2));
     (f.len() == 4 + n) & (bits::fields::frame_version(f[0]) == 1)
+}
+
+// Whether a number is a status: 0 to 7 (PROFILE 4.2). 8 is not.
+pub fn is_status(s: u8) -> bool
+    ensures { λ r. ⌜ r ≡ isStatus s ⌝ }
+{
+    s <= NOT_ENOUGH_SPACE
 }
 
 // Whether the body is empty.

@@ -13,11 +13,11 @@ use Rattle.profile.specs.Slot.{Count, Right, recount, Entry, enabled, disabled,
 use Rattle.profile.specs.Table.{handleOf, rightOf, slotsOf}
 use Rattle.profile.specs.Frame.{duplicate}
 use Rattle.profile.specs.Request.{retrieve, rek, enable}
-use Rattle.profile.specs.Agent.{Given, Answer, nothing, done, onRecord, lendAt, enableAt, act}
+use Rattle.profile.specs.Agent.{Given, Answer, nothing, done, find, whenFound, lendAt, enableAt, act}
 use Rattle.slots.specs.declared.place.Place.{Place}
 use Rattle.slots.specs.declared.place.Place.the-variants.{Empty, Reserved, Enabled, Disabled}
 use Rattle.slots.proofs.place.Place.{the-type}
-use Rattle.tables.specs.LookUp.{lookUp}
+use Rattle.tables.specs.LookUp.{foundAt}
 use Rattle.changes.specs.Change.{slotAt}
 use Rattle.decisions.specs.declared.decision.Decision.{Decision}
 use Rattle.decisions.specs.declared.decision.Decision.the-variants.{Refuse, Take}
@@ -28,15 +28,15 @@ use Rattle.decisions.proofs.Deciding.{expects, refuses, Held, chosen-enabled, l
 use Rattle.rights.specs.Lending.{lentBy}
 
 -- ---- 3 and 4, by the decision d, whatever they give
-module _ (T B h k : Bytes) (bytes : Bytes256 T) (r : Ready T B) (d : Decision) (e : d ≡ unlessUsed (inUse k (slotsOf T)) (decided lendable (lookUp h (slotsOf T)))) where
+module _ (T B h k : Bytes) (bytes : Bytes256 T) (r : Ready T B) (d : Decision) (e : d ≡ unlessUsed (inUse k (slotsOf T)) (decided lendable (foundAt (find h (slotsOf T))))) where
   abbrev before : Decision
-  before = decided lendable (lookUp h (slotsOf T))
+  before = decided lendable (foundAt (find h (slotsOf T)))
 
-  pub lend-refused : (give : Right → Given) (n : ℕ) → d ≡ Refuse n → Denied n (onRecord (slotsOf T) h (lendAt (slotsOf T) k give))
+  pub lend-refused : (give : Right → Given) (n : ℕ) → d ≡ Refuse n → Denied n (whenFound (find h (slotsOf T)) (lendAt (slotsOf T) k give))
   lend-refused give n q =
       lending-refused (inUse k (slotsOf T)) before n (sym e ∙ q)
       (refuses h (slotsOf T) lendable at (expects lendable at (λ _ i n. refl) (λ q. absurd (true≢false q)) (λ _ i r. refl)) before refl n)
-      (λ i o q used five. record { refusal = duplicate; numbered = five; answer = chosen-enabled T B h bytes r before refl i o q .acted-on at ∙ rw used })
+      (λ i o q used five. record { refusal = duplicate; numbered = five; answer = rw (chosen-enabled T B h bytes r before refl i o q .found, used) })
     where
       at : ℕ → Entry → Answer
       at = lendAt (slotsOf T) k give
@@ -48,15 +48,15 @@ module _ (T B h k : Bytes) (bytes : Bytes256 T) (r : Ready T B) (d : Decision) (
     pub to-lend : Held T h i Enabled
     to-lend = chosen-enabled T B h bytes r before refl i o (free .1)
 
-    pub lends : (give : Right → Given) → onRecord (slotsOf T) h (lendAt (slotsOf T) k give) ≡ done (give (rightOf (slotAt T i))) (set (slotsOf T) i (taken k (disabled (rightOf (slotAt T i)))))
-    lends give = to-lend .acted-on (lendAt (slotsOf T) k give) ∙ rw (free .0)
+    pub lends : (give : Right → Given) → whenFound (find h (slotsOf T)) (lendAt (slotsOf T) k give) ≡ done (give (rightOf (slotAt T i))) (set (slotsOf T) i (taken k (disabled (rightOf (slotAt T i)))))
+    lends give = rw (to-lend .found, free .0)
 
 module _ {T B T' B' : Bytes} (h k : Bytes) where
-  pub retrieved : Serves 3 (onRecord (slotsOf T) h (lendAt (slotsOf T) k (lentBy 3))) T B T' B' → Serves 3 (answerTo T (retrieve h k)) T B T' B'
+  pub retrieved : Serves 3 (whenFound (find h (slotsOf T)) (lendAt (slotsOf T) k (lentBy 3))) T B T' B' → Serves 3 (answerTo T (retrieve h k)) T B T' B'
   unfolding act
   retrieved s = s
 
-  pub queried : Serves 4 (onRecord (slotsOf T) h (lendAt (slotsOf T) k (lentBy 4))) T B T' B' → Serves 4 (answerTo T (rek h k)) T B T' B'
+  pub queried : Serves 4 (whenFound (find h (slotsOf T)) (lendAt (slotsOf T) k (lentBy 4))) T B T' B' → Serves 4 (answerTo T (rek h k)) T B T' B'
   unfolding act
   queried s = s
 
@@ -66,7 +66,7 @@ pub not-disabled : (p : Place) → OneOf (0 ∷ 1 ∷ 2 ∷ []) (tagOf the-type 
 not-disabled p others q = ⊎-elim (λ e. omega arith) (⊎-elim (λ e. omega arith) (λ e. omega arith)) (rw q at others)
 
 module _ (T h : Bytes) (c : Count) where
-  pub enable-refused : (d : Decision) → d ≡ decided installed (lookUp h (slotsOf T)) → (n : ℕ) → d ≡ Refuse n → Denied n (answerTo T (enable h c))
+  pub enable-refused : (d : Decision) → d ≡ decided installed (foundAt (find h (slotsOf T))) → (n : ℕ) → d ≡ Refuse n → Denied n (answerTo T (enable h c))
   unfolding act
   enable-refused = refuses h (slotsOf T) installed at (expects installed at (λ _ i n. refl) (λ q. absurd (true≢false q)) (λ q. absurd (true≢false q)))
     where
@@ -78,11 +78,11 @@ module _ (T h : Bytes) (c : Count) where
   unfolding act
   stays i Empty s n = absurd (false≢true (s .1))
   stays i Reserved s n = absurd (false≢true (s .1))
-  stays i Enabled s n = s .0 .acted-on (enableAt (slotsOf T) h c)
+  stays i Enabled s n = rw (s .0 .found)
   stays i Disabled s n = absurd (n refl)
 
   pub returned : (i : ℕ) → Held T h i Disabled → answerTo T (enable h c) ≡ done nothing (set (slotsOf T) i (taken (handleOf (slotAt T i)) (enabled (recount c (rightOf (slotAt T i))))))
   unfolding act
   returned i w =
-      w .acted-on (enableAt (slotsOf T) h c)
-      ∙ ap (λ (k : Bytes). done nothing (set (slotsOf T) i (taken k (enabled (recount c (rightOf (slotAt T i))))))) (sym (w .handle-is))
+      rw (w .found)
+      (ap (λ (k : Bytes). done nothing (set (slotsOf T) i (taken k (enabled (recount c (rightOf (slotAt T i))))))) (sym (w .handle-is)))

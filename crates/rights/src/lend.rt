@@ -8,7 +8,7 @@ ghost use Rattle.profile.specs.Bytes.{over};
 ghost use Rattle.profile.specs.Sizes.{slotSize, replyRoom, mostHashes, mostPayload};
 ghost use Rattle.profile.specs.Table.{hashCountOf, lengthOf, rightOf, slotsOf};
 ghost use Rattle.profile.specs.Frame.{frame};
-ghost use Rattle.profile.specs.Agent.{lendAt, onRecord, writeGiven};
+ghost use Rattle.profile.specs.Agent.{find, whenFound, lendAt, writeGiven};
 ghost use Rattle.decisions.specs.Serving.{Ready, Serves};
 ghost use Rattle.rights.specs.Lending.{lentBy};
 
@@ -34,7 +34,7 @@ pub fn lend(
     kind: u8,
 )
     requires { ⌜ Ready (now table) (now reply) × (3 ≤ kind) × (kind ≤ 4) ⌝ }
-    ensures { λ _. ⌜ Serves kind (onRecord (slotsOf (now (table .entry))) h (lendAt (slotsOf (now (table .entry))) k (lentBy kind))) (now (table .entry)) (now (reply .entry)) (now (table .exit)) (now (reply .exit)) ⌝ }
+    ensures { λ _. ⌜ Serves kind (whenFound (find h (slotsOf (now (table .entry)))) (lendAt (slotsOf (now (table .entry))) k (lentBy kind))) (now (table .entry)) (now (reply .entry)) (now (table .exit)) (now (reply .exit)) ⌝ }
 {
     match decisions::lending::slot_to_lend(table, h, k) {
         Decision::Refuse(status) => reply_writer::writer::reply_status(reply, kind, status),

@@ -1,6 +1,6 @@
 -- The agent's answer to kinds 1 and 2, outcome by outcome. Assumes nothing.
 use Prim.Native.Nat.{ℕ, _≤_, _<_}
-use mathlib.Core.Path.{_≡_, refl, _∙_}
+use mathlib.Core.Path.{_≡_, refl}
 use mathlib.Core.Bool.{true, false, _||_, true≢false}
 use borrow.Author.Tests.{lt-ltb, le-ltb, eq-eqb, ne-eqb}
 use lib.Dec.{leb, ltb}
@@ -11,11 +11,11 @@ use Rattle.profile.specs.Slot.{Right, Entry, reserved, enabled, taken, inUse}
 use Rattle.profile.specs.Table.{placeOf, lengthOf, slotCount, slotsOf}
 use Rattle.profile.specs.Frame.{parameter, duplicate, noSpace, code}
 use Rattle.profile.specs.Request.{setup, install}
-use Rattle.profile.specs.Agent.{Answer, nothing, done, installAt, act, lowestEmpty}
+use Rattle.profile.specs.Agent.{Answer, nothing, done, find, installAt, act, lowestEmpty}
 use Rattle.profile.proofs.Logic.{leb-over, or-parts}
 use Rattle.profile.proofs.Lookup.{lowestEmpty-free}
 use Rattle.slots.specs.declared.place.Place.the-variants.{Reserved}
-use Rattle.tables.specs.LookUp.{lookUp}
+use Rattle.tables.specs.LookUp.{foundAt}
 use Rattle.tables.proofs.SlotParts.{length-slots}
 use Rattle.changes.specs.Change.{slotAt, Has}
 use Rattle.changes.proofs.Standing.{free-place}
@@ -28,7 +28,7 @@ use Rattle.decisions.proofs.Deciding.{expects, refuses, Held}
 
 -- ---- 2, on a record that is reserved
 module _ (T h : Bytes) (x : Right) where
-  pub install-refused : (d : Decision) → d ≡ decided awaited (lookUp h (slotsOf T)) → (n : ℕ) → d ≡ Refuse n → Denied n (answerTo T (install h x))
+  pub install-refused : (d : Decision) → d ≡ decided awaited (foundAt (find h (slotsOf T))) → (n : ℕ) → d ≡ Refuse n → Denied n (answerTo T (install h x))
   unfolding act
   install-refused = refuses h (slotsOf T) awaited at (expects awaited at (λ q. absurd (true≢false q)) (λ _ i r. refl) (λ _ i r. refl))
     where
@@ -38,11 +38,11 @@ module _ (T h : Bytes) (x : Right) where
   module _ {i : ℕ} (w : Held T h i Reserved) where
     pub too-long : lengthOf (slotAt T i) < length (x .payload) → Denied (code noSpace) (answerTo T (install h x))
     unfolding act
-    too-long l = record { refusal = noSpace; numbered = refl; answer = w .acted-on (installAt (slotsOf T) h x) ∙ rw (lt-ltb (lengthOf (slotAt T i)) (length (x .payload)) l) }
+    too-long l = record { refusal = noSpace; numbered = refl; answer = rw (w .found, lt-ltb (lengthOf (slotAt T i)) (length (x .payload)) l) }
 
     pub installs : length (x .payload) ≤ lengthOf (slotAt T i) → answerTo T (install h x) ≡ done nothing (set (slotsOf T) i (taken h (enabled x)))
     unfolding act
-    installs l = w .acted-on (installAt (slotsOf T) h x) ∙ rw (le-ltb (lengthOf (slotAt T i)) (length (x .payload)) l)
+    installs l = rw (w .found, le-ltb (lengthOf (slotAt T i)) (length (x .payload)) l)
 
 -- ---- 1, by its tests, whichever slot is the free one
 module _ (T h : Bytes) (n free : ℕ) where

@@ -3,7 +3,6 @@ use Prim.Native.Nat.{ℕ, suc, _+_, _*_, _≤_, _<_}
 use mathlib.Core.Path.{_≡_, refl, sym, ap, _∙_}
 use mathlib.Core.List.{List, [], _∷_}
 use mathlib.Core.Bool.{Bool, true, false, true≢false}
-use native.Mathlib.Numerals.{add-one}
 use native.Mathlib.Omega.{arith}
 use native.Mathlib.Nat.{zero-add, not-suc-le-zero, le-of-suc-le-suc}
 use borrow.Author.Tests.{lt-ltb, le-ltb}
@@ -12,13 +11,12 @@ use lib.ListN.{length, getD, drop, length-drop}
 use Rattle.profile.specs.Bytes.{Bytes, part, same}
 use Rattle.profile.specs.Slot.{Entry, Slot, empty, taken, named, inUse}
 use Rattle.profile.specs.Table.{placeOf, unpack, slotCount, slotsOf}
-use Rattle.profile.specs.Agent.{Found, absent, one, next, find, times}
+use Rattle.profile.specs.Agent.{Found, absent, one, next, find}
 use Rattle.profile.proofs.Logic.{split, same-refl, or-parts}
-use Rattle.profile.proofs.Lookup.{free-times}
 use Rattle.slots.specs.declared.place.Place.{Place}
-use Rattle.tables.specs.declared.lookup.Lookup.the-variants.{Absent, Two, At}
+use Rattle.tables.specs.declared.lookup.Lookup.the-variants.{Absent, At}
 use Rattle.slots.specs.Places.{placeNumber, placeOfEntry}
-use Rattle.tables.specs.LookUp.{lookUp, firstUnder}
+use Rattle.tables.specs.LookUp.{foundAt, firstUnder}
 use Rattle.slots.proofs.Unpacking.{place-of-entry}
 use Rattle.tables.proofs.SlotParts.{length-slots, unpacked-at}
 
@@ -47,24 +45,16 @@ in-use-below h t from n e = go (inUse h t) refl
     go false q = le-ltb (from + firstUnder h t) n (omega (arith, first-none h t q))
 
 -- ---- the first slot under the handle is the one found
-pub record FirstFound (h : Bytes) (t : List Slot) (i : ℕ) : Type 0 where
-  pub entry : Entry
-  pub found : find h t ≡ one i entry
-  pub counted : times h t ≡ suc (times h (drop (suc i) t))
-
-pub first-found : (h : Bytes) (t : List Slot) → firstUnder h t < length t → FirstFound h t (firstUnder h t)
+pub first-found : (h : Bytes) (t : List Slot) → firstUnder h t < length t → (e : Entry) × (find h t ≡ one (firstUnder h t) e)
 unfolding firstUnder
 first-found h [] l = absurd (not-suc-le-zero l)
-first-found h (empty ∷ t) l =
-    let r = first-found h t (omega arith) in
-    record { entry = r .entry; found = ap next (r .found); counted = r .counted }
+first-found h (empty ∷ t) l = let r = first-found h t (omega arith) in (r .0, ap next (r .1))
 first-found h (taken k e ∷ t) l = go (same h k) refl (first-found h t)
   where
-    go : (b : Bool) → same h k ≡ b → (firstUnder h t < length t → FirstFound h t (firstUnder h t)) → FirstFound h (taken k e ∷ t) (firstUnder h (taken k e ∷ t))
-    go true q ih = rw q (record { entry = e; found = rw q; counted = rw q })
-    go false q ih =
-        let r = ih (le-of-suc-le-suc (rw q at l)) in
-        rw q (record { entry = r .entry; found = rw (q, r .found); counted = rw q (r .counted) })
+    go : (b : Bool) → same h k ≡ b → (firstUnder h t < length t → (e : Entry) × (find h t ≡ one (firstUnder h t) e))
+        → (x : Entry) × (find h (taken k e ∷ t) ≡ one (firstUnder h (taken k e ∷ t)) x)
+    go true q ih = rw q (e, refl)
+    go false q ih = let r = ih (le-of-suc-le-suc (rw q at l)) in rw q (r .0, ap next (r .1))
 
 -- a slot that is found is one of the slots, and is under the handle
 pub record Stands (h : Bytes) (t : List Slot) (i : ℕ) (e : Entry) (d : Slot) : Type 0 where
@@ -98,7 +88,6 @@ found-stands h (taken k x ∷ t) i e d q = go (λ j. found-stands h t j e d)
         (λ p. here p (rw (p, same-refl k) at q))
         (λ n. stands-next h (taken k x) t i e d (find h t) g (rw n at q))
 
--- ---- how often the handle is there
 found-none : (h : Bytes) (t : List Slot) → inUse h t ≡ false → find h t ≡ absent
 found-none h [] e = refl
 found-none h (empty ∷ t) e = ap next (found-none h t e)
@@ -106,41 +95,21 @@ found-none h (taken k x ∷ t) e =
     let p = or-parts (same h k) (inUse h t) e in
     rw (p .0) (ap next (found-none h t (p .1)))
 
-used-times : (h : Bytes) (t : List Slot) → inUse h t ≡ true → 1 ≤ times h t
-used-times h [] e = absurd (true≢false (sym e))
-used-times h (s ∷ t) e = go (named h s) refl (used-times h t)
-  where
-    go : (b : Bool) → named h s ≡ b → (inUse h t ≡ true → 1 ≤ times h t) → 1 ≤ times h (s ∷ t)
-    go true q ih = rw q (omega arith)
-    go false q ih = rw q (ih (rw q at e))
-
--- ---- the three answers
+-- ---- the two answers
 module _ (h : Bytes) (t : List Slot) (i : ℕ) (first : i ≡ firstUnder h t) where
-  pub looks-absent : length t ≤ i → lookUp h t ≡ Absent
-  unfolding lookUp
+  looks-absent : length t ≤ i → foundAt (find h t) ≡ Absent
+  unfolding foundAt
   looks-absent l = go (inUse h t) refl
     where
-      go : (b : Bool) → inUse h t ≡ b → lookUp h t ≡ Absent
+      go : (b : Bool) → inUse h t ≡ b → foundAt (find h t) ≡ Absent
       go true q = absurd (omega (arith, first-some h t q))
-      go false q = rw (free-times h t q, found-none h t q)
+      go false q = rw (found-none h t q)
 
-  module _ (below : i < length t) where
-    first-here : FirstFound h t i
-    first-here = rw first (first-found h t (rw first at below))
-
-    pub looks-two : inUse h (drop (i + 1) t) ≡ true → lookUp h t ≡ Two
-    unfolding lookUp
-    looks-two u =
-        let more : 1 ≤ times h (drop (suc i) t) = used-times h (drop (suc i) t) (rw add-one at u) in
-        rw (lt-ltb 1 (times h t) (omega (arith, first-here .counted)))
-
-    pub looks-at : (d : Slot) (p : Place) → inUse h (drop (i + 1) t) ≡ false → ((e : Entry) → getD t i d ≡ taken h e → p ≡ placeOfEntry e) → lookUp h t ≡ At i p
-    unfolding lookUp
-    looks-at d p u place =
-        let e = first-here .entry in
-        let none : times h (drop (suc i) t) ≡ 0 = free-times h (drop (suc i) t) (rw add-one at u) in
-        rw (le-ltb 1 (times h t) (omega (arith, first-here .counted)), first-here .found)
-        (ap (At i) (sym (place e (found-stands h t i e d (first-here .found) .there))))
+  looks-at : i < length t → (d : Slot) (p : Place) → ((e : Entry) → getD t i d ≡ taken h e → p ≡ placeOfEntry e) → foundAt (find h t) ≡ At i p
+  unfolding foundAt
+  looks-at below d p place =
+      let here : (e : Entry) × (find h t ≡ one i e) = rw first (first-found h t (rw first at below)) in
+      rw (here .1) (ap (At i) (sym (place (here .0) (found-stands h t i (here .0) d (here .1) .there))))
 
 -- ---- over a table's bytes
 module _ (t h : Bytes) where
@@ -150,15 +119,10 @@ module _ (t h : Bytes) where
       (in-use-below h (drop from (slotsOf t)) from (slotCount t) (rw (length-drop from (slotsOf t), length-slots t) (omega arith)))
 
   module _ (i : ℕ) (first : i ≡ 0 + firstUnder h (slotsOf t)) where
-    pub answers-absent : slotCount t ≤ i → lookUp h (slotsOf t) ≡ Absent
+    pub answers-absent : slotCount t ≤ i → foundAt (find h (slotsOf t)) ≡ Absent
     answers-absent l = looks-absent h (slotsOf t) i (first ∙ zero-add _) (rw (length-slots t) l)
 
-    module _ (below : i < slotCount t) where
-      pub answers-two : inUse h (drop (i + 1) (slotsOf t)) ≡ true → lookUp h (slotsOf t) ≡ Two
-      answers-two = looks-two h (slotsOf t) i (first ∙ zero-add _) (rw (length-slots t) below)
-
-      pub answers-at : (s : Bytes) (p : Place) → inUse h (drop (i + 1) (slotsOf t)) ≡ false → s ≡ part (4288 * i) 4288 t → placeNumber p ≡ placeOf s
-          → lookUp h (slotsOf t) ≡ At i p
-      answers-at s p alone e n =
-          looks-at h (slotsOf t) i (first ∙ zero-add _) (rw (length-slots t) below) (unpack []) p alone
-          (λ x there. place-of-entry s p h x n (rw e (sym (unpacked-at t i below) ∙ there)))
+    pub answers-at : i < slotCount t → (s : Bytes) (p : Place) → s ≡ part (4288 * i) 4288 t → placeNumber p ≡ placeOf s → foundAt (find h (slotsOf t)) ≡ At i p
+    answers-at below s p e n =
+        looks-at h (slotsOf t) i (first ∙ zero-add _) (rw (length-slots t) below) (unpack []) p
+        (λ x there. place-of-entry s p h x n (rw e (sym (unpacked-at t i below) ∙ there)))

@@ -1,57 +1,49 @@
--- What an answer of `look_up` says: the agent's verdict on the handle, and the record found. Assumes nothing.
+-- What an answer of `look_up` says: what is found under the handle, and the record's slot. Assumes nothing.
 use Prim.Native.Nat.{ℕ, zero, suc, _*_, _≤_, _<_}
 use mathlib.Core.Path.{_≡_, refl, sym, ap, _∙_}
 use mathlib.Core.List.{List, []}
-use mathlib.Core.Bool.{true, false}
+use mathlib.Core.Bool.{true}
 use native.Mathlib.Omega.{arith}
 use lib.ListN.{length}
-use lib.Dec.{ltb}
 use Rattle.profile.specs.Bytes.{Bytes, part, word}
 use Rattle.profile.specs.Slot.{Entry, reserved, enabled, disabled, Slot, taken}
 use Rattle.profile.specs.Table.{placeOf, hashCountOf, rightOf, unpack, wellSlot, wellTable, slotCount, slotsOf}
-use Rattle.profile.specs.Frame.{notFound, twoRecords}
-use Rattle.profile.specs.Agent.{Answer, deny, Found, absent, one, find, times, onRecord}
-use Rattle.profile.proofs.Logic.{if-cases}
+use Rattle.profile.specs.Agent.{Found, absent, one, find}
 use Rattle.slots.specs.declared.place.Place.{Place}
 use Rattle.slots.specs.declared.place.Place.the-variants.{Empty, Reserved, Enabled, Disabled}
 use Rattle.tables.specs.declared.lookup.Lookup.{Lookup}
-use Rattle.tables.specs.declared.lookup.Lookup.the-variants.{Absent, Two, At}
+use Rattle.tables.specs.declared.lookup.Lookup.the-variants.{Absent, At}
 use Rattle.slots.specs.Places.{placeNumber, placeOfEntry}
-use Rattle.tables.specs.LookUp.{foundAt, lookUp}
+use Rattle.tables.specs.LookUp.{foundAt}
 use Rattle.slots.proofs.Unpacking.{empty-taken, same-entry, unpack-empty, unpack-reserved, unpack-enabled, unpack-disabled}
 use Rattle.tables.proofs.SlotParts.{length-slots, length-slot, unpacked-at}
 use Rattle.slots.proofs.WellSlots.{few-hashes, length-1-to-4096}
 use Rattle.tables.proofs.WellTables.{slot-well}
 use Rattle.tables.proofs.LookingUp.{found-stands}
 
--- ---- on any slots: what each answer means to the agent
+-- ---- on any slots: the record that an answer is about
 pub record Standing (h : Bytes) (u : List Slot) (i : ℕ) (p : Place) : Type 0 where
   pub entry : Entry
   pub placed : placeOfEntry entry ≡ p
   pub found : find h u ≡ one i entry
-  pub acted-on : (f : ℕ → Entry → Answer) → onRecord u h f ≡ f i entry
 
-abbrev pub Means : Bytes → List Slot → Lookup → Type 0
-Means h u Absent = (f : ℕ → Entry → Answer) → onRecord u h f ≡ deny notFound
-Means h u Two = (f : ℕ → Entry → Answer) → onRecord u h f ≡ deny twoRecords
+abbrev Means : Bytes → List Slot → Lookup → Type 0
+Means h u Absent = find h u ≡ absent
 Means h u (At i p) = Standing h u i p
 
 module _ (h : Bytes) (u : List Slot) where
-  answer-means : Means h u (lookUp h u)
-  unfolding lookUp
-  answer-means = if-cases (Means h u) (ltb 1 (times h u)) (λ q f. rw q) (λ q. by-found q (find h u) refl)
+  answer-means : Means h u (foundAt (find h u))
+  unfolding foundAt
+  answer-means = go (find h u) refl
     where
-      by-found : ltb 1 (times h u) ≡ false → (r : Found) → find h u ≡ r → Means h u (foundAt r)
-      by-found q absent e = λ f. rw (q, e)
-      by-found q (one i x) e = record { entry = x; placed = refl; found = e; acted-on = λ f. rw (q, e) }
+      go : (r : Found) → find h u ≡ r → Means h u (foundAt r)
+      go absent e = e
+      go (one i x) e = record { entry = x; placed = refl; found = e }
 
-  pub absent-denied : lookUp h u ≡ Absent → (f : ℕ → Entry → Answer) → onRecord u h f ≡ deny notFound
-  absent-denied e = rw e at answer-means
+  pub absent-found : foundAt (find h u) ≡ Absent → find h u ≡ absent
+  absent-found e = rw e at answer-means
 
-  pub two-denied : lookUp h u ≡ Two → (f : ℕ → Entry → Answer) → onRecord u h f ≡ deny twoRecords
-  two-denied e = rw e at answer-means
-
-  pub at-stands : (i : ℕ) (p : Place) → lookUp h u ≡ At i p → Standing h u i p
+  pub at-stands : (i : ℕ) (p : Place) → foundAt (find h u) ≡ At i p → Standing h u i p
   at-stands i p e = rw e at answer-means
 
 -- ---- on a table's bytes: the record found is that of slot i
@@ -77,7 +69,7 @@ entry-is s h e u = go (placeOf s) refl
 pub record RecordAt (t h : Bytes) (i : ℕ) (e : Entry) : Type 0 where
   pub below : i < slotCount t
   pub unpacked : unpack (part (4288 * i) 4288 t) ≡ taken h e
-  pub acted-on : (f : ℕ → Entry → Answer) → onRecord (slotsOf t) h f ≡ f i e
+  pub found : find h (slotsOf t) ≡ one i e
 
 -- the bytes of a record's slot: how long they are, and what its fields are bounded by
 pub record RecordFits (s : Bytes) : Type 0 where
@@ -87,8 +79,8 @@ pub record RecordFits (s : Bytes) : Type 0 where
   pub long : (1 ≤ word 29 s) × (word 29 s ≤ 4096)
 
 module _ (t h : Bytes) (i : ℕ) where
-  pub record-at : (p : Place) → lookUp h (slotsOf t) ≡ At i p → RecordAt t h i (entryOf p (part (4288 * i) 4288 t))
-  record-at p l = rw (← known) (record { below = below; unpacked = unpacked; acted-on = s .acted-on })
+  pub record-at : (p : Place) → foundAt (find h (slotsOf t)) ≡ At i p → RecordAt t h i (entryOf p (part (4288 * i) 4288 t))
+  record-at p l = rw (← known) (record { below = below; unpacked = unpacked; found = s .found })
     where
       s : Standing h (slotsOf t) i p
       s = at-stands h (slotsOf t) i p l
@@ -113,7 +105,7 @@ module _ (t h : Bytes) (i : ℕ) where
       taken-slot z = empty-taken h e (sym (unpack-empty (part (4288 * i) 4288 t) z) ∙ r .unpacked)
 
   -- every slot but an empty one has a handle
-  pub none-empty : lookUp h (slotsOf t) ≡ At i Empty → ⊥
+  pub none-empty : foundAt (find h (slotsOf t)) ≡ At i Empty → ⊥
   none-empty l = go (s .entry) (s .placed)
     where
       s : Standing h (slotsOf t) i Empty

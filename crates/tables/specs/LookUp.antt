@@ -1,21 +1,17 @@
--- What looking up a handle answers, from the profile's `times` and `find`.
+-- What looking up a handle answers, from the profile's `find`.
 use Prim.Native.Nat.{ℕ, suc}
 use mathlib.Core.List.{List, [], _∷_}
-use lib.Dec.{ltb}
 use Rattle.profile.specs.Bytes.{Bytes, if_then_else_}
 use Rattle.profile.specs.Slot.{Slot, named}
-use Rattle.profile.specs.Agent.{Found, absent, one, find, times}
+use Rattle.profile.specs.Agent.{Found, absent, one}
 use Rattle.slots.specs.Places.{placeOfEntry}
 use Rattle.tables.specs.declared.lookup.Lookup.{Lookup}
-use Rattle.tables.specs.declared.lookup.Lookup.the-variants.{Absent, Two, At}
+use Rattle.tables.specs.declared.lookup.Lookup.the-variants.{Absent, At}
 
-abbrev pub foundAt : Found → Lookup
+-- of a slot that is found, its number and the place of its record
+unfoldable pub foundAt : Found → Lookup
 foundAt absent = Absent
 foundAt (one i e) = At i (placeOfEntry e)
-
--- in more than one slot; else as it is found
-unfoldable pub lookUp : Bytes → List Slot → Lookup
-lookUp h t = if ltb 1 (times h t) then Two else foundAt (find h t)
 
 -- how many slots stand before the first that is taken under the handle
 unfoldable pub firstUnder : Bytes → List Slot → ℕ

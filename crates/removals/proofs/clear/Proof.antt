@@ -51,7 +51,9 @@ returns c =
     let replied = c .before .before in
     let at = replied .before .before .before in
     let d = at .before .before in
-    refused-serves (refuses _ _ _ _ (clear-expects _ (slotsOf (now (start d .args .table)))) _ (d .slot-under .ensures) _ (at .status .given .1)) (replied .reply-status .ensures)
+    let a = start d .args in
+    let u = slotsOf (now (a .table)) in
+    refused-serves (refuses (a .h) u _ _ (clear-expects _ u) _ (d .slot-under .ensures) _ (at .status .given .1)) (replied .reply-status .ensures)
 
 same-length-3 : tie.Need-same-length-3
 same-length-3 c = search needs

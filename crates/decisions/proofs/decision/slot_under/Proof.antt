@@ -12,9 +12,6 @@ look-up-requires c κs = search needs
 enum-told : tie.Need-enum-told
 enum-told c = search needs
 
-enum-told-2 : tie.Need-enum-told-2
-enum-told-2 c = search needs
-
 enum-known-i : tie.Need-enum-known-i
 enum-known-i c = search needs
 
@@ -26,16 +23,12 @@ unfolding decided
 returns c = sym (ap (decided (c .before .before .before .before .args .takes)) (sym (c .before .before .look-up .ensures) ∙ c .enum-told .given .1))
 
 returns-2 : tie.Need-returns-2
-unfolding decided
-returns-2 c = sym (ap (decided (c .before .before .before .before .args .takes)) (sym (c .before .before .look-up .ensures) ∙ c .enum-told2 .given .1))
-
-returns-3 : tie.Need-returns-3
-returns-3 c =
+returns-2 c =
     let found = c .before .before .before in
     taken-decided _ _ _ _ _ (sym (found .before .before .look-up .ensures) ∙ found .i .given .1) (c .before .takes-place .ensures) (c .if1 .taken)
 
-returns-4 : tie.Need-returns-4
-returns-4 c =
+returns-3 : tie.Need-returns-3
+returns-3 c =
     let found = c .before .before .before in
     other-decided _ _ _ _ _ (sym (found .before .before .look-up .ensures) ∙ found .i .given .1) (c .before .takes-place .ensures) (c .if1 .left)
 
@@ -45,10 +38,8 @@ slot-under-spec =
     (tie.spec
     look-up-requires
     enum-told
-    enum-told-2
     enum-known-i
     takes-place-requires
     returns
     returns-2
-    returns-3
-    returns-4)
+    returns-3)
