@@ -20,10 +20,10 @@ extern "C" {
 #endif
 
 /* The version of the library. */
-#define CAVERNLULL_VERSION_MAJOR 1
+#define CAVERNLULL_VERSION_MAJOR 2
 #define CAVERNLULL_VERSION_MINOR 0
 #define CAVERNLULL_VERSION_PATCH 0
-#define CAVERNLULL_VERSION "1.0.0"
+#define CAVERNLULL_VERSION "2.0.0"
 
 /* Sizes in bytes, and the most slots and hashes (PROFILE 1.3). */
 enum {
@@ -63,7 +63,8 @@ enum {
     CAVERNLULL_RIGHTS_INFORMATION_QUERY = 9
 };
 
-/* The statuses, in a reply's second byte (PROFILE 4.2). With every status but 0, the table stays as it was. */
+/* The statuses, in a reply's second byte (PROFILE 4.2). With every status but 0, the table stays as it was. 8 is not used: no
+ * card sends it, and the reply reader refuses it. */
 enum {
     CAVERNLULL_SUCCESS = 0,
     CAVERNLULL_FIELD_INTEGRITY_VERIFICATION_FAILED = 1,
@@ -72,8 +73,7 @@ enum {
     CAVERNLULL_HANDLE_NOT_FOUND = 4,
     CAVERNLULL_DUPLICATE_HANDLE = 5,
     CAVERNLULL_UNEXPECTED_REQUEST = 6,
-    CAVERNLULL_NOT_ENOUGH_SPACE = 7,
-    CAVERNLULL_TWO_RECORDS = 8 /* never sent: such a table is refused with 103 */
+    CAVERNLULL_NOT_ENOUGH_SPACE = 7
 };
 
 /* The card agent (PROFILE 1.1): answers one request frame about a table of 1 to 15 slots. A table of zeros is a blank card.
@@ -145,7 +145,7 @@ enum {
  *   9  Rights Information Query      count, payload
  *
  * Otherwise returns this number, and changes neither `key` nor `fields`:
- *   203 CAVERNLULL_NO_REPLY  the frame is not 4 plus its body length long; its version is not 1; its status is over 8; it has a
+ *   203 CAVERNLULL_NO_REPLY  the frame is not 4 plus its body length long; its version is not 1; its status is over 7; it has a
  *                            body though its status is not 0; or its status is 0 and its body is not of its kind's shape (a
  *                            kind outside 1 to 9 has none)
  */

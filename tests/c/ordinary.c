@@ -232,6 +232,8 @@ static void refusals(void) {
     uint8_t kept[CAVERNLULL_KEY_BYTES];
     memset(kept, FILLER, sizeof kept);
     memset(fields, FILLER, sizeof fields);
+    for (uint8_t kind = 0; kind < 32; kind++) /* 8 is no status */
+        CHECK(cavernlull_read_reply((const uint8_t[]){0x20 | kind, 8, 0, 0}, 4, kept, fields) == CAVERNLULL_NO_REPLY);
     CHECK(cavernlull_read_reply((const uint8_t[]){0x21, 9, 0, 0}, 4, kept, fields) == CAVERNLULL_NO_REPLY);
     CHECK(filled(kept, sizeof kept, FILLER) && fields[0] == 0xA5A5 && fields[CAVERNLULL_REPLY_NUMBERS - 1] == 0xA5A5);
 }

@@ -36,7 +36,7 @@ pub enum WriteError {
 /// 203: the bytes are not the frame of a reply.
 ///
 /// The frame is not 4 bytes and its body length long, its version is not 1, its
-/// status is over 8, it has a body though its status is not 0, or its status
+/// status is over 7, it has a body though its status is not 0, or its status
 /// is 0 and its body is not of its kind's shape.
 #[derive(Clone, Copy, Debug, PartialEq, Eq, Hash)]
 pub struct ReadError;

@@ -60,7 +60,7 @@ impl Reply {
             match (Status::from_number(status), Kind::from_number(kind)) {
                 (Some(Status::Success), Some(kind)) => success(kind, frame, Key(key), &numbers),
                 (Some(status), _) => Reply::Refused { kind, status },
-                (None, _) => unreachable!("the reader is proved to refuse a status over 8"),
+                (None, _) => unreachable!("the reader is proved to refuse every other number"),
             },
         )
     }

@@ -24,16 +24,11 @@ pub enum Status {
     UnexpectedRequest = 6,
     /// No slot is empty, or the length is more than there is room for.
     NotEnoughSpace = 7,
-    /// The request's handle is in more than one slot. No card sends this
-    /// status: such a table is refused ([`TableNotWellFormed`]).
-    ///
-    /// [`TableNotWellFormed`]: crate::CallError::TableNotWellFormed
-    TwoRecords = 8,
 }
 
 impl Status {
     /// All statuses, in the order of their numbers.
-    pub const ALL: [Status; 9] = [
+    pub const ALL: [Status; 8] = [
         Status::Success,
         Status::FieldIntegrityVerificationFailed,
         Status::ParameterFailed,
@@ -42,15 +37,23 @@ impl Status {
         Status::DuplicateHandle,
         Status::UnexpectedRequest,
         Status::NotEnoughSpace,
-        Status::TwoRecords,
     ];
 
-    /// The status's number, 0 to 8.
+    /// The status's number, 0 to 7.
     pub const fn number(self) -> u8 {
         self as u8
     }
 
-    /// The status of this number, if it is 0 to 8.
+    /// The status of this number, if it is 0 to 7. No other number is a
+    /// status: a reply with one is refused ([`ReadError`](crate::ReadError)).
+    ///
+    /// ```
+    /// use cavernlull::{ReadError, Reply, Status};
+    ///
+    /// assert_eq!(Status::from_number(7), Some(Status::NotEnoughSpace));
+    /// assert_eq!(Status::from_number(8), None);
+    /// assert_eq!(Reply::read(&[0x26, 8, 0, 0]), Err(ReadError));
+    /// ```
     pub fn from_number(number: u8) -> Option<Status> {
         Status::ALL
             .into_iter()
@@ -69,7 +72,6 @@ impl fmt::Display for Status {
             Status::DuplicateHandle => "Duplicate Handle",
             Status::UnexpectedRequest => "Unexpected Request",
             Status::NotEnoughSpace => "Not Enough Space",
-            Status::TwoRecords => "Two Records",
         })
     }
 }
