@@ -161,18 +161,54 @@ fn out_buffer(rng: &mut Rng, kind: u8, fields: &Fields<'_>) -> Vec<u8> {
     rng.bytes(room)
 }
 
-/// Has this many replies read, and checks each.
+/// Has this many random replies read, and checks each.
 ///
 /// # Panics
 ///
 /// Where the archive and the reference differ.
-pub fn compare_readers(mut rng: Rng, calls: u64) -> ReaderCounts {
+pub fn compare_readers(rng: Rng, calls: u64) -> ReaderCounts {
     let mut counts = ReaderCounts::new();
+    let asker = Asker::new(4);
+    let replies = move |rng: &mut Rng, _| asker.reply(rng);
+    read_each(rng, calls, replies, |_, given| {
+        let [kind, status] = match given.number {
+            0 => [given.numbers[0] as u8, given.numbers[1] as u8],
+            _ => [0, 0],
+        };
+        *counts.entry((given.number, kind, status)).or_default() += 1;
+    });
+    counts
+}
+
+/// Has a reply without a body read for every kind with every number as its
+/// status, and checks each. Gives kind and status of those accepted.
+///
+/// # Panics
+///
+/// Where the archive and the reference differ.
+pub fn accepted_without_body(rng: Rng) -> Vec<(u8, u8)> {
+    let mut accepted = Vec::new();
+    let replies = |_: &mut Rng, call: u64| frame((call / 256) as u8, (call % 256) as u8, &[]);
+    read_each(rng, 32 * 256, replies, |reply, given| {
+        if given.number == 0 {
+            accepted.push((reply[0] & 31, reply[1]));
+        }
+    });
+    accepted
+}
+
+/// Has as many replies read as there are calls, each made by the number of its
+/// call; checks each, and hands it on with what was read.
+fn read_each(
+    mut rng: Rng,
+    calls: u64,
+    mut reply: impl FnMut(&mut Rng, u64) -> Vec<u8> + Send,
+    mut seen: impl FnMut(&[u8], &Read),
+) {
     pipeline::run(
         move |giver| {
-            let asker = Asker::new(4);
-            for _ in 0..calls {
-                let frame = asker.reply(&mut rng);
+            for call in 0..calls {
+                let frame = reply(&mut rng, call);
                 let key = [0; 16].map(|_: u8| rng.byte());
                 let numbers = [0; 10].map(|_: u16| rng.word());
                 giver.commands.read_reply(&frame, &key, &numbers)?;
@@ -186,14 +222,9 @@ pub fn compare_readers(mut rng: Rng, calls: u64) -> ReaderCounts {
             if let Err(difference) = given.same_as(&expected) {
                 panic!("{frame:02x?}: {difference}");
             }
-            let [kind, status] = match given.number {
-                0 => [given.numbers[0] as u8, given.numbers[1] as u8],
-                _ => [0, 0],
-            };
-            *counts.entry((given.number, kind, status)).or_default() += 1;
+            seen(&frame, &given);
         },
     );
-    counts
 }
 
 /// What the reference reads in a reply, in the form that the archive gives.

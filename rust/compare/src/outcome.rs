@@ -44,8 +44,7 @@ impl fmt::Display for Outcome {
 pub type Counts = BTreeMap<Outcome, u64>;
 
 /// Every outcome that can occur: each number, and each kind with the statuses
-/// that it can have (PROFILE 4.2, 5). Status 8 is not among them, since 103
-/// comes first.
+/// that it can have (PROFILE 4.2, 5).
 pub fn that_can_occur() -> Vec<Outcome> {
     let statuses = |kind: u8| -> &'static [u8] {
         match kind {

@@ -5,7 +5,7 @@ use crate::number::{DONE, NO_FRAME, REPLY_BUFFER_SHORT};
 use crate::reply::{handles_body, information_body, reply_frame};
 use crate::request::content_of;
 use crate::slot::{self, Place, SlotBytes};
-use crate::table::{self, Found};
+use crate::table;
 use crate::{read_request, Fields, Handle, Kind, ReadRequest, Request, Status};
 use crate::{HANDLE_BYTES, MAX_PAYLOAD};
 
@@ -192,15 +192,10 @@ fn record<'a>(slots: &'a mut [SlotBytes], handle: &Handle) -> Result<&'a mut Slo
     Ok(&mut slots[index])
 }
 
-/// The index of the record under the request's handle. A handle in more than
-/// one slot is status 8, which is tested before 4, a handle in none
-/// (PROFILE 4.2).
+/// The index of the record under the request's handle; status 4 where there is
+/// none (PROFILE 4.2).
 fn locate(slots: &[SlotBytes], handle: &Handle) -> Result<usize, Status> {
-    match table::find(slots, handle) {
-        Found::InSeveral => Err(Status::TwoRecords),
-        Found::Absent => Err(Status::HandleNotFound),
-        Found::At(index) => Ok(index),
-    }
+    table::find(slots, handle).ok_or(Status::HandleNotFound)
 }
 
 /// Status 6 unless the record is in a place that the request is for.
@@ -217,23 +212,4 @@ fn refuse_duplicate(slots: &[SlotBytes], handle: &Handle) -> Result<(), Status> 
         return Err(Status::DuplicateHandle);
     }
     Ok(())
-}
-
-#[cfg(test)]
-mod tests {
-    use super::*;
-    use crate::SLOT_BYTES;
-
-    /// [`call`] refuses a table with two such records with 103, so only a test
-    /// in this module can see status 8.
-    #[test]
-    fn a_handle_in_two_slots_is_8_and_one_in_none_is_4() {
-        let mut slots = [[0; SLOT_BYTES]; 3];
-        slot::reserve(&mut slots[0], &[1; 10], 5);
-        slot::reserve(&mut slots[2], &[1; 10], 5);
-        assert_eq!(locate(&slots, &[1; 10]), Err(Status::TwoRecords));
-        assert_eq!(locate(&slots, &[0; 10]), Err(Status::HandleNotFound));
-        slot::clear(&mut slots[0]);
-        assert_eq!(locate(&slots, &[1; 10]), Ok(2));
-    }
 }

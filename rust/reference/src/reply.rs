@@ -51,7 +51,7 @@ pub struct Reply<'a> {
 }
 
 /// Reads a reply frame (PROFILE 6.3). It is refused with 203 unless its length
-/// and version are right, the status is 0 to 8, and the body is of its kind's
+/// and version are right, the status is 0 to 7, and the body is of its kind's
 /// shape at status 0 and empty at any other.
 pub fn read_reply(bytes: &[u8]) -> Result<Reply<'_>, u16> {
     read(bytes).ok_or(NO_REPLY)

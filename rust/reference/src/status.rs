@@ -20,15 +20,11 @@ pub enum Status {
     UnexpectedRequest = 6,
     /// No slot is empty, or the length is more than there is room for.
     NotEnoughSpace = 7,
-    /// The request's handle is in more than one slot. Such a table is not well
-    /// formed, so [`call`](crate::call) gives 103 before it could send this
-    /// status. The reply reader takes it all the same.
-    TwoRecords = 8,
 }
 
 impl Status {
     /// All statuses, in the order of their numbers.
-    pub const ALL: [Status; 9] = [
+    pub const ALL: [Status; 8] = [
         Status::Success,
         Status::FieldIntegrityVerificationFailed,
         Status::ParameterFailed,
@@ -37,17 +33,16 @@ impl Status {
         Status::DuplicateHandle,
         Status::UnexpectedRequest,
         Status::NotEnoughSpace,
-        Status::TwoRecords,
     ];
 
-    /// The status of this number; `None` unless it is 0 to 8.
+    /// The status of this number; `None` unless it is 0 to 7.
     pub fn from_number(number: u8) -> Option<Status> {
         Status::ALL
             .into_iter()
             .find(|status| status.number() == number)
     }
 
-    /// The number of this status, 0 to 8.
+    /// The number of this status, 0 to 7.
     pub fn number(self) -> u8 {
         self as u8
     }

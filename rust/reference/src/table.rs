@@ -59,23 +59,7 @@ pub(crate) fn lowest_empty(slots: &[SlotBytes]) -> Option<usize> {
         .position(|slot| slot::place(slot) == Place::Empty)
 }
 
-/// Where a handle is.
-#[derive(Clone, Copy, Debug, PartialEq, Eq)]
-pub(crate) enum Found {
-    /// In no slot.
-    Absent,
-    /// In the slot of this index and in no other.
-    At(usize),
-    /// In more than one slot.
-    InSeveral,
-}
-
-/// Looks for a handle among the non-empty slots.
-pub(crate) fn find(slots: &[SlotBytes], handle: &Handle) -> Found {
-    let mut indices = (0..slots.len()).filter(|&index| slot::has_handle(&slots[index], handle));
-    match (indices.next(), indices.next()) {
-        (None, _) => Found::Absent,
-        (Some(index), None) => Found::At(index),
-        (Some(_), Some(_)) => Found::InSeveral,
-    }
+/// The non-empty slot with this handle. A well-formed table has one at most.
+pub(crate) fn find(slots: &[SlotBytes], handle: &Handle) -> Option<usize> {
+    slots.iter().position(|slot| slot::has_handle(slot, handle))
 }

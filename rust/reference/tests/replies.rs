@@ -86,7 +86,7 @@ fn fields_of_each_success() {
 #[test]
 fn a_status_other_than_0_has_an_empty_body_and_any_kind() {
     for kind in 0..32 {
-        for number in 1..=8 {
+        for number in 1..=7 {
             let frame = reply_bytes(kind, number, &[]);
             let reply = read_reply(&frame).expect("a refusal");
             assert_eq!((reply.kind, reply.status.number()), (kind, number));
@@ -95,7 +95,7 @@ fn a_status_other_than_0_has_an_empty_body_and_any_kind() {
                 assert!(!accepted(kind, number, &vec![0; body]));
             }
         }
-        for number in 9..=255 {
+        for number in 8..=255 {
             assert!(!accepted(kind, number, &[]), "status {number}");
         }
     }
