@@ -19,7 +19,7 @@ void *memset(void *to, int byte, size_t length);
 enum { SLOT = 4288, SLOTS = 15, HANDLE = 10, KEY = 16, HASH = 20, HASHES = 8, PAYLOAD = 4096, REPLY = 4279, BLOCK = 512 };
 enum { AT_HANDLE = 1, AT_KEY = 11, AT_COUNT = 27, AT_LENGTH = 29, AT_HASHES = 31, AT_ZERO = 191, AT_PAYLOAD = 192 };
 enum { EMPTY, RESERVED, ENABLED, DISABLED };
-enum { SUCCESS, INTEGRITY, PARAMETER, UNSUPPORTED, NOT_FOUND, DUPLICATE, UNEXPECTED, NO_SPACE, TWO_RECORDS };
+enum { SUCCESS, INTEGRITY, PARAMETER, UNSUPPORTED, NOT_FOUND, DUPLICATE, UNEXPECTED, NO_SPACE };
 
 /* ---- bytes */
 static unsigned word(const uint8_t *s) { return (unsigned)s[0] << 8 | s[1]; }
@@ -210,7 +210,6 @@ static unsigned serve(struct call *c, unsigned kind) {
     if (kind == 8) return list(c);
     uint8_t *s = find(c->table, c->end, c->body);
     if (s == c->end) return NOT_FOUND;
-    if (find(s + SLOT, c->end, c->body) < c->end) return TWO_RECORDS;
     switch (kind) {
     case 2: return install(c, s);
     case 3: return lend(c, s, true);

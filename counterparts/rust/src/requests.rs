@@ -12,7 +12,6 @@ pub enum Status {
     Duplicate = 5,
     Unexpected = 6,
     NoSpace = 7,
-    TwoRecords = 8,
 }
 
 /// The head and the body of a frame, if the bytes are one.

@@ -19,11 +19,7 @@ pub fn serve(slots: &mut [Slot], kind: u8, body: &[u8], reply: &mut Reply) -> An
         8 => return list(slots, body, reply),
         _ => {}
     }
-    let wanted = first(body);
-    let at = find(slots, wanted).ok_or(Status::NotFound)?;
-    if find(&slots[at + 1..], wanted).is_some() {
-        return Err(Status::TwoRecords);
-    }
+    let at = find(slots, first(body)).ok_or(Status::NotFound)?;
     match kind {
         2 => install(&mut slots[at], body),
         3 | 4 => lend(slots, at, second(body), kind == 3, reply),
