@@ -1,18 +1,20 @@
 -- The first slot under a handle, and what looking the handle up answers. Assumes nothing.
-use Prim.Native.Nat.{ℕ, suc, _+_, _*_, _≤_, _<_}
+use Prim.Native.Nat.{ℕ, zero, suc, _+_, _*_, _≤_, _<_}
 use mathlib.Core.Path.{_≡_, refl, sym, ap, _∙_}
 use mathlib.Core.List.{List, [], _∷_}
+use mathlib.Core.Option.{some}
 use mathlib.Core.Bool.{Bool, true, false, true≢false}
 use native.Mathlib.Omega.{arith}
 use native.Mathlib.Nat.{zero-add, not-suc-le-zero, le-of-suc-le-suc}
 use borrow.Author.Tests.{lt-ltb, le-ltb}
 use lib.Dec.{ltb}
-use lib.ListN.{length, getD, drop, length-drop}
+use lib.ListN.{length, getD, getElem?, drop, length-drop}
 use Rattle.profile.specs.Bytes.{Bytes, part, same}
 use Rattle.profile.specs.Slot.{Entry, Slot, empty, taken, named, inUse}
 use Rattle.profile.specs.Table.{placeOf, unpack, slotCount, slotsOf}
-use Rattle.profile.specs.Agent.{Found, absent, one, next, find}
-use Rattle.profile.proofs.Logic.{split, same-refl, or-parts}
+use Rattle.profile.specs.Agent.{absent, one, next, find}
+use Rattle.profile.proofs.Logic.{or-parts}
+use Rattle.profile.proofs.Laws.{not-there, found-is}
 use Rattle.slots.specs.declared.place.Place.{Place}
 use Rattle.tables.specs.declared.lookup.Lookup.the-variants.{Absent, At}
 use Rattle.slots.specs.Places.{placeNumber, placeOfEntry}
@@ -61,32 +63,13 @@ pub record Stands (h : Bytes) (t : List Slot) (i : ℕ) (e : Entry) (d : Slot) :
   pub below : i < length t
   pub there : getD t i d ≡ taken h e
 
-absent-one : (i : ℕ) (e : Entry) → absent ≡ one i e → ⊥
-absent-one i e q = let z : _≡_ {A = ℕ} 0 1 = cc in omega arith
-
-stands-next : (h : Bytes) (s : Slot) (t : List Slot) (i : ℕ) (e : Entry) (d : Slot) → (f : Found) → ((j : ℕ) → f ≡ one j e → Stands h t j e d) → next f ≡ one i e → Stands h (s ∷ t) i e d
-stands-next h s t i e d absent g q = absurd (absent-one i e q)
-stands-next h s t i e d (one j x) g q =
-    let ei : suc j ≡ i = cc in
-    let ex : x ≡ e = cc in
-    let r : Stands h t j e d = g j (ap (one j) ex) in
-    rw (← ei) (record { below = omega (arith, r .below); there = r .there })
+stands-at : (h : Bytes) (t : List Slot) (i : ℕ) (e : Entry) (d : Slot) → getElem? t i ≡ some (taken h e) → Stands h t i e d
+stands-at h [] i e d p = absurd (not-there p)
+stands-at h (s ∷ t) zero e d p = record { below = omega arith; there = cc }
+stands-at h (s ∷ t) (suc i) e d p = let r = stands-at h t i e d p in record { below = omega (arith, r .below); there = r .there }
 
 pub found-stands : (h : Bytes) (t : List Slot) (i : ℕ) (e : Entry) (d : Slot) → find h t ≡ one i e → Stands h t i e d
-found-stands h [] i e d q = absurd (absent-one i e q)
-found-stands h (empty ∷ t) i e d q = stands-next h empty t i e d (find h t) (λ j. found-stands h t j e d) q
-found-stands h (taken k x ∷ t) i e d q = go (λ j. found-stands h t j e d)
-  where
-    here : h ≡ k → one 0 x ≡ one i e → Stands h (taken k x ∷ t) i e d
-    here p r =
-        let ei : 0 ≡ i = cc in
-        let ex : x ≡ e = cc in
-        rw (← ei) (record { below = omega arith; there = rw (p, ex) })
-
-    go : ((j : ℕ) → find h t ≡ one j e → Stands h t j e d) → Stands h (taken k x ∷ t) i e d
-    go g = split h k
-        (λ p. here p (rw (p, same-refl k) at q))
-        (λ n. stands-next h (taken k x) t i e d (find h t) g (rw n at q))
+found-stands h t i e d q = stands-at h t i e d (rw q at (found-is h t))
 
 found-none : (h : Bytes) (t : List Slot) → inUse h t ≡ false → find h t ≡ absent
 found-none h [] e = refl
