@@ -1,5 +1,5 @@
 -- The laws of slots and setups hold (PROFILE 2.5, 4 and 5.1): rules said in another way than their definitions say them.
-use Prim.Native.Nat.{ℕ, zero, suc, _<_}
+use Prim.Native.Nat.{ℕ, zero, suc, _≤_, _<_}
 use mathlib.Core.Path.{_≡_, refl, sym, ap, _∙_, subst}
 use mathlib.Core.List.{List, [], _∷_}
 use mathlib.Core.Option.{Option, none, some, Option·some-injective}
@@ -9,14 +9,16 @@ use native.Mathlib.Omega.{arith}
 use lib.Dec.{eqb}
 use lib.ListN.{length, getElem?, set}
 use Rattle.profile.specs.Bytes.{Bytes, if_then_else_, same, over}
+use Rattle.profile.specs.Sizes.{replyRoom}
 use Rattle.profile.specs.Slot.{Right, Entry, reserved, enabled, disabled, Slot, empty, taken, inUse, distinct}
-use Rattle.profile.specs.Table.{slotsOf}
+use Rattle.profile.specs.Table.{slotsOf, wholeSlots, wellTable}
 use Rattle.profile.specs.Frame.{kindNumber, frame}
 use Rattle.profile.specs.Request.{setup, Read, asks, refused, noFrame, readRequest}
 use Rattle.profile.specs.Agent.{Given, Found, absent, one, next, find, Answer, deny, done, act, lowestEmpty, replyFrame, Call, refuse, replied, obey, onBytes, agent}
 use Rattle.profile.specs.Laws.{Apart, Refuses, FoundIs, SetsLowest, is-empty}
 use Rattle.profile.proofs.Logic.{both, and-parts, not-true, same-refl, split}
-use Rattle.profile.proofs.Numbers.{by-agent}
+use Rattle.profile.proofs.Numbers.{agent-103, by-agent}
+use Rattle.profile.proofs.WellFormed.{table-distinct}
 use Rattle.profile.proofs.Steps.{acts}
 
 -- ---- items of a list
@@ -131,6 +133,13 @@ module _ (table : Bytes) (c : Call) where
       obeyed (asks q) free = refused-status (act free (slotsOf table) q)
       obeyed (refused r) free = refused-status (deny r)
       obeyed noFrame free = refused-number 104 refl
+
+  pub twice-103 : replyRoom ≤ length (c .buffer) → wholeSlots table ≡ true → (Apart (slotsOf table) → ⊥) → agent table c ≡ refuse 103 table (c .buffer)
+  twice-103 long whole twice = agent-103 table c long whole (ill (wellTable table) refl)
+    where
+      ill : (b : Bool) → wellTable table ≡ b → wellTable table ≡ false
+      ill true well = absurd (twice (apart (slotsOf table) (table-distinct table whole well)))
+      ill false well = well
 
 -- ---- looking up
 next-is : (h : Bytes) (s : Slot) (t : List Slot) (x : Found) → ((e : Entry) → some s ≡ some (taken h e) → ⊥) → FoundIs h t x → FoundIs h (s ∷ t) (next x)

@@ -19,7 +19,7 @@ use Rattle.profile.proofs.WrittenAgain.{written-again}
 use Rattle.profile.proofs.Replies.{replies-read}
 use Rattle.profile.proofs.Statuses.{statuses, never-8, never-read-8}
 use Rattle.profile.proofs.AnyTable.{stays-well}
-use Rattle.profile.proofs.Laws.{apart, apart-distinct, refuses, found-is, sets-lowest, sets-only}
+use Rattle.profile.proofs.Laws.{apart, apart-distinct, refuses, twice-103, found-is, sets-lowest, sets-only}
 use Rattle.profile.proofs.ListLaws.{lists-exactly, lists-only}
 use Rattle.profile.proofs.BytesCases.{bytes-hold}
 use Rattle.profile.proofs.TableCases.{tables-hold}
@@ -60,6 +60,7 @@ theorems =
       never-8 = never-8;
       statuses = statuses;
       never-read-8 = never-read-8;
+      twice-103 = twice-103;
       stays-well = λ table y whole well c. let s = stays-well table y whole well c in record { whole = s .0; well = s .1 };
       found-is = found-is;
       sets-lowest = sets-lowest;

@@ -14,7 +14,7 @@ use Rattle.profile.specs.Slot.{reserved, Slot, taken, distinct, SlotFits
 use Rattle.profile.specs.Table.{unpack, pack, wellSlot, slotsOf, tableOf, wholeSlots, wellTable}
 use Rattle.profile.specs.Frame.{Kind, kindOf, isStatus, kindNumber, statusIn}
 use Rattle.profile.specs.Request.{Request, setup, list, asks, readRequest, writeRequest, withVerdict, RequestFits}
-use Rattle.profile.specs.Agent.{Given, Answer, done, find, act, lowestEmpty, replyFrame, Call, Outcome, replied, agent}
+use Rattle.profile.specs.Agent.{Given, Answer, done, find, act, lowestEmpty, replyFrame, Call, Outcome, refuse, replied, agent}
 use Rattle.profile.specs.Device.{Fields, requestOf, fieldsIn, Arrays, Written, write, malformed, readReply, sent}
 use Rattle.profile.specs.BytesCases
 use Rattle.profile.specs.SizeCases
@@ -92,6 +92,8 @@ pub record Theorems : Type 0 where
   pub never-8 : (table : Bytes) (c : Call) → eqb (agent table c .number) 0 ≡ true → eqb (statusIn (agent table c .reply)) 8 ≡ false
   pub statuses : (s : ℕ) → (isStatus s ≡ true) ↔ AStatus s
   pub never-read-8 : (f : Bytes) → statusIn f ≡ 8 → readReply f ≡ malformed
+  -- PROFILE 4.1: one handle in two slots is 103, whatever the frame
+  pub twice-103 : (table : Bytes) (c : Call) → replyRoom ≤ length (c .buffer) → wholeSlots table ≡ true → (Apart (slotsOf table) → ⊥) → agent table c ≡ refuse 103 table (c .buffer)
   -- PROFILE 2.5: a well-formed table stays so
   pub stays-well : (table : Bytes) → Bytes256 table → wholeSlots table ≡ true → wellTable table ≡ true → (c : Call) → Stays (agent table c .table)
   -- PROFILE 5: the slot found under a handle, the slot that a setup takes, the handles listed; no other slot and no other list meets these laws
