@@ -12,7 +12,7 @@ ghost use Rattle.profile.specs.Table.{unpack, slotCount, slotsOf};
 ghost use Rattle.tables.specs.LookUp.{firstUnder};
 
 // An empty slot is under no handle, not even ten zero bytes (PROFILE 2.3). The place is looked at last, since most handles differ in
-// the first byte.
+// the byte that is compared first.
 fn is_under(s: &[u8], h: &[u8]) -> bool
     requires { ⌜ (length (now s) ≡ slotSize) × (length (now h) ≡ handleSize) ⌝ }
     ensures { λ r. ⌜ r ≡ named (now (h .entry)) (unpack (now (s .entry))) ⌝ }
