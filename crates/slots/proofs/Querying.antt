@@ -1,5 +1,5 @@
 -- The hashes of a record against those of a query. Assumes nothing.
-use Prim.Native.Nat.{ℕ, zero, suc, _+_, _*_, _≤_, _<_}
+use Prim.Native.Nat.{ℕ, zero, suc, _+_, _≤_, _<_}
 use mathlib.Core.Path.{_≡_, refl, sym, ap, _∙_}
 use mathlib.Core.List.{List, [], _∷_}
 use mathlib.Core.Bool.{Bool, false}
@@ -53,8 +53,9 @@ module _ (s : Bytes) where
   not-listed q (suc (suc zero)) at other = absurd (other refl)
   not-listed q (suc (suc (suc n))) at other = rw (unpack-disabled s n at)
 
-  pub listed-all : placeOf s ≡ 2 → listedSlot [] (unpack s) ≡ part 1 10 s ∷ []
-  listed-all at = rw (unpack-enabled s at)
+  pub listed-all : (q : List Bytes) → placeOf s ≡ 2 → length q ≡ 0 → listedSlot q (unpack s) ≡ part 1 10 s ∷ []
+  listed-all [] at none = rw (unpack-enabled s at)
+  listed-all (x ∷ q) at none = absurd (omega (arith, none))
 
   pub listed-some : (q : List Bytes) (r : Bool) → placeOf s ≡ 2 → 0 < length q → r ≡ any (λ x. any (same x) (rightOf s .hashes)) q
       → listedSlot q (unpack s) ≡ (if r then part 1 10 s ∷ [] else [])

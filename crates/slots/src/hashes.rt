@@ -1,13 +1,12 @@
-// The hashes of a record against those of a list query (PROFILE 5.8).
+// The hashes of a record against those of a list query (PROFILE 5.8), which are lent and not copied.
 use crate::place::Place;
 use profile::sizes::HASH_BYTES;
-use profile::sizes::MOST_HASHES;
 use profile::slot::GAP_AT;
 use profile::slot::HASHES_AT;
 ghost use mathlib.Core.Path.{_≡_};
 ghost use mathlib.Core.List.{[], _∷_};
 ghost use Prim.Native.Nat.{_≤_, _*_};
-ghost use lib.ListN.{length, take};
+ghost use lib.ListN.{length};
 ghost use Rattle.profile.specs.Bytes.{pieces, same, any, if_then_else_};
 ghost use Rattle.profile.specs.Sizes.{slotSize, hashSize, mostHashes};
 ghost use Rattle.profile.specs.Table.{unpack, hashCountOf, handleOf, rightOf};
@@ -29,13 +28,13 @@ fn has_hash(bytes: &[u8], count: usize, asked: [u8; HASH_BYTES]) -> bool
     false
 }
 
-// Whether one of the query's n hashes is one of the record's.
-fn has_one_of(bytes: &[u8], count: usize, q: [[u8; HASH_BYTES]; MOST_HASHES], n: usize) -> bool
-    requires { ⌜ (n ≤ mostHashes) × (hashSize * count ≤ length (now bytes)) ⌝ }
-    ensures { λ r. ⌜ r ≡ any (λ x. any (same x) (pieces hashSize count (now (bytes .entry)))) (take n q) ⌝ }
+// Whether one of the query's hashes is one of the record's.
+fn has_one_of(bytes: &[u8], count: usize, q: &[[u8; HASH_BYTES]]) -> bool
+    requires { ⌜ hashSize * count ≤ length (now bytes) ⌝ }
+    ensures { λ r. ⌜ r ≡ any (λ x. any (same x) (pieces hashSize count (now (bytes .entry)))) (now (q .entry)) ⌝ }
 {
     let mut k = 0;
-    while k < n {
+    while k < q.len() {
         if has_hash(bytes, count, q[k]) {
             return true;
         }
@@ -44,26 +43,26 @@ fn has_one_of(bytes: &[u8], count: usize, q: [[u8; HASH_BYTES]; MOST_HASHES], n:
     false
 }
 
-// Whether one of the record's hashes is one of the query's n. If the record has no hash, the query is neither looked at nor copied.
-pub fn has_some(s: &[u8], q: [[u8; HASH_BYTES]; MOST_HASHES], n: usize) -> bool
-    requires { ⌜ (n ≤ mostHashes) × (length (now s) ≡ slotSize) × (hashCountOf (now s) ≤ mostHashes) ⌝ }
-    ensures { λ r. ⌜ r ≡ any (λ x. any (same x) (rightOf (now (s .entry)) .hashes)) (take n q) ⌝ }
+// Whether one of the record's hashes is one of the query's. If the record has no hash, the query is not looked at.
+pub fn has_some(s: &[u8], q: &[[u8; HASH_BYTES]]) -> bool
+    requires { ⌜ (length (now s) ≡ slotSize) × (hashCountOf (now s) ≤ mostHashes) ⌝ }
+    ensures { λ r. ⌜ r ≡ any (λ x. any (same x) (rightOf (now (s .entry)) .hashes)) (now (q .entry)) ⌝ }
 {
     let count = bits::fields::slot_hashes(s[0]) as usize;
     if count == 0 {
         return false;
     }
-    has_one_of(&s[HASHES_AT..GAP_AT], count, q, n)
+    has_one_of(&s[HASHES_AT..GAP_AT], count, q)
 }
 
 // Whether the record goes into the list: it is enabled, and has one of the query's hashes or the query has none.
-pub fn is_listed(s: &[u8], q: [[u8; HASH_BYTES]; MOST_HASHES], n: usize) -> bool
-    requires { ⌜ (n ≤ mostHashes) × (length (now s) ≡ slotSize) × (hashCountOf (now s) ≤ mostHashes) ⌝ }
-    ensures { λ r. ⌜ listedSlot (take n q) (unpack (now (s .entry))) ≡ (if r then handleOf (now (s .entry)) ∷ [] else []) ⌝ }
+pub fn is_listed(s: &[u8], q: &[[u8; HASH_BYTES]]) -> bool
+    requires { ⌜ (length (now s) ≡ slotSize) × (hashCountOf (now s) ≤ mostHashes) ⌝ }
+    ensures { λ r. ⌜ listedSlot (now (q .entry)) (unpack (now (s .entry))) ≡ (if r then handleOf (now (s .entry)) ∷ [] else []) ⌝ }
 {
     let place = crate::place::place_of(s);
     match place {
-        Place::Enabled => { if n == 0 { true } else { has_some(s, q, n) } }
+        Place::Enabled => { if q.len() == 0 { true } else { has_some(s, q) } }
         Place::Empty => false,
         Place::Reserved => false,
         Place::Disabled => false,

@@ -5,7 +5,8 @@ use mathlib.Core.Bool.{Bool, false}
 use mathlib.Core.List.{[]}
 use native.Mathlib.Omega.{arith}
 use Prim.Native.Nat.{ℕ, _≤_, _-_}
-use lib.ListN.{take}
+use lib.ListN.{length, take}
+use lib.Seq.{take-length}
 use borrow.Author.Needs.{needs}
 use Rattle.profile.specs.Bytes.{Bytes, same, any, pieces}
 use Rattle.octets.proofs.Comparing.{any-more, any-found}
@@ -17,10 +18,10 @@ abbrev has : Bytes → ℕ → Bytes → Bool
 has bytes n x = any (same x) (pieces 20 n bytes)
 
 abbrev Inv-loop : tie.InvT-loop
-Inv-loop bytes count n q k₀ k = (k ≤ n) × (any (has bytes count) (take k q) ≡ false)
+Inv-loop bytes count q k₀ k = (k ≤ length q) × (any (has bytes count) (take k q) ≡ false)
 
 abbrev μ-loop : tie.MeasureT-loop
-μ-loop bytes count n q k₀ k = n - k
+μ-loop bytes count q k₀ k = length q - k
 
 loop-holds : tie.Need-loop-holds Inv-loop μ-loop
 loop-holds c = search needs
@@ -28,8 +29,8 @@ loop-holds c = search needs
 mul-has-hash : tie.Need-mul-has-hash Inv-loop μ-loop
 mul-has-hash c = search needs
 
-array-copy-out-has-hash : tie.Need-array-copy-out-has-hash Inv-loop μ-loop
-array-copy-out-has-hash c = search needs
+shared-slice-copy-out-has-hash : tie.Need-shared-slice-copy-out-has-hash Inv-loop μ-loop
+shared-slice-copy-out-has-hash c = search needs
 
 has-hash-requires : tie.Need-has-hash-requires Inv-loop μ-loop
 has-hash-requires c κs = search needs
@@ -38,7 +39,9 @@ returns : tie.Need-returns Inv-loop μ-loop
 returns c =
     let l = c .before .before .before .before in
     let a = l .before .before .args in
-    sym (any-found (has (now (a .bytes)) (a .count)) (a .t3) (a .n) (l .loop .k) [] (omega arith) (search needs) (sym (c .before .has-hash .ensures) ∙ c .if1 .taken))
+    sym (rw (take-length (now (a .q))) at
+    (any-found (has (now (a .bytes)) (a .count)) (now (a .q)) (length (now (a .q))) (l .loop .k) [] (omega arith) (omega arith)
+    (sym (c .before .has-hash .ensures) ∙ c .if1 .taken)))
 
 add-k : tie.Need-add-k Inv-loop μ-loop
 add-k c = search needs
@@ -50,12 +53,14 @@ loop-again : tie.Need-loop-again Inv-loop μ-loop
 loop-again c =
     let l = c .before .before .before .before in
     let a = l .before .before .args in
-    (search needs, any-more (has (now (a .bytes)) (a .count)) (a .t3) (l .loop .k) [] (search needs) (l .loop .inv .1) (sym (c .before .has-hash .ensures) ∙ c .if1 .left))
+    (search needs, any-more (has (now (a .bytes)) (a .count)) (now (a .q)) (l .loop .k) [] (omega arith) (l .loop .inv .1) (sym (c .before .has-hash .ensures) ∙ c .if1 .left))
 
 returns-2 : tie.Need-returns-2 Inv-loop μ-loop
 returns-2 c =
-    let e : c .before .loop .k ≡ c .before .before .before .args .n = omega arith in
-    sym (rw e at (c .before .loop .inv .1))
+    let l = c .before in
+    let q = now (l .before .before .args .q) in
+    let e : l .loop .k ≡ length q = omega arith in
+    sym (rw (e, take-length q) at (l .loop .inv .1))
 
 pub has-one-of-spec : {M : Type 1} → statement M
 has-one-of-spec =
@@ -65,7 +70,7 @@ has-one-of-spec =
     μ-loop
     loop-holds
     mul-has-hash
-    array-copy-out-has-hash
+    shared-slice-copy-out-has-hash
     has-hash-requires
     returns
     add-k

@@ -1,6 +1,5 @@
 -- `slots::hashes::has_some` meets its contract. Assumes nothing.
 use denote.Ref.{now}
-use lib.ListN.{take}
 use borrow.Author.Needs.{needs}
 use Rattle.slots.proofs.Querying.{record-none, record-some}
 use Rattle.slots.proofs.hashes.has_some.Statement.{statement}
@@ -18,7 +17,7 @@ cast-count c = search needs
 returns : tie.Need-returns
 returns c =
     let a = c .before .before .before .before .args in
-    record-none (now (a .s)) (take (a .n) (a .q)) _ (c .before .slot-hashes .ensures) (c .if1 .taken)
+    record-none (now (a .s)) (now (a .q)) _ (c .before .slot-hashes .ensures) (c .if1 .taken)
 
 sub-has-one-of : tie.Need-sub-has-one-of
 sub-has-one-of c = search needs
@@ -35,7 +34,7 @@ has-one-of-requires c κs = search needs
 returns-2 : tie.Need-returns-2
 returns-2 c =
     let b = c .before .before .before .before .before .before in
-    record-some (now (b .args .s)) (take (b .args .n) (b .args .q)) _ (c .before .before .before .slot-hashes .ensures) _ (b .pre .1) (b .pre .2) (c .has-one-of .ensures)
+    record-some (now (b .args .s)) (now (b .args .q)) _ (c .before .before .before .slot-hashes .ensures) _ (b .pre .0) (b .pre .1) (c .has-one-of .ensures)
 
 pub has-some-spec : {M : Type 1} → statement M
 has-some-spec =

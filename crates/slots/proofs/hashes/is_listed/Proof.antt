@@ -1,8 +1,7 @@
 -- `slots::hashes::is_listed` meets its contract, place by place. Assumes nothing.
 use denote.Ref.{now}
-use mathlib.Core.Path.{_≡_, sym, ap, _∙_}
+use mathlib.Core.Path.{sym, ap, _∙_}
 use native.Mathlib.Omega.{arith}
-use lib.ListN.{length, take, length-take}
 use Rattle.slots.specs.Places.{placeNumber}
 use Rattle.slots.proofs.Querying.{not-listed, listed-all, listed-some}
 use borrow.Author.Needs.{needs}
@@ -30,29 +29,28 @@ enum-told-4 c = search needs
 returns : tie.Need-returns
 returns c =
     let a = c .before .before .before .before .before .args in
-    rw (c .if1 .taken) (listed-all (now (a .s)) (sym (c .before .before .before .place-of .ensures) ∙ ap placeNumber (c .before .enum-told .given .1)))
+    listed-all (now (a .s)) (now (a .q)) (sym (c .before .before .before .place-of .ensures) ∙ ap placeNumber (c .before .enum-told .given .1)) (c .if1 .taken)
 
 returns-2 : tie.Need-returns-2
 returns-2 c =
     let a = c .before .before .before .before .before .before .args in
-    let l : length (a .q) ≡ 8 = search needs in
-    listed-some (now (a .s)) (take (a .n) (a .q)) _
-    (sym (c .before .before .before .before .place-of .ensures) ∙ ap placeNumber (c .before .before .enum-told .given .1)) (rw (length-take (a .n) (a .q)) (omega arith)) (c .has-some .ensures)
+    listed-some (now (a .s)) (now (a .q)) _
+    (sym (c .before .before .before .before .place-of .ensures) ∙ ap placeNumber (c .before .before .enum-told .given .1)) (omega arith) (c .has-some .ensures)
 
 returns-3 : tie.Need-returns-3
 returns-3 c =
     let a = c .before .before .before .before .args in
-    not-listed (now (a .s)) (take (a .n) (a .q)) 0 (sym (c .before .before .place-of .ensures) ∙ ap placeNumber (c .enum-told2 .given .1)) (λ e. omega arith)
+    not-listed (now (a .s)) (now (a .q)) 0 (sym (c .before .before .place-of .ensures) ∙ ap placeNumber (c .enum-told2 .given .1)) (λ e. omega arith)
 
 returns-4 : tie.Need-returns-4
 returns-4 c =
     let a = c .before .before .before .before .args in
-    not-listed (now (a .s)) (take (a .n) (a .q)) 1 (sym (c .before .before .place-of .ensures) ∙ ap placeNumber (c .enum-told3 .given .1)) (λ e. omega arith)
+    not-listed (now (a .s)) (now (a .q)) 1 (sym (c .before .before .place-of .ensures) ∙ ap placeNumber (c .enum-told3 .given .1)) (λ e. omega arith)
 
 returns-5 : tie.Need-returns-5
 returns-5 c =
     let a = c .before .before .before .before .args in
-    not-listed (now (a .s)) (take (a .n) (a .q)) 3 (sym (c .before .before .place-of .ensures) ∙ ap placeNumber (c .enum-told4 .given .1)) (λ e. omega arith)
+    not-listed (now (a .s)) (now (a .q)) 3 (sym (c .before .before .place-of .ensures) ∙ ap placeNumber (c .enum-told4 .given .1)) (λ e. omega arith)
 
 pub is-listed-spec : {M : Type 1} → statement M
 is-listed-spec =
