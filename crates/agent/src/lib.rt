@@ -14,10 +14,10 @@ ghost use mathlib.Core.Path.{_≡_};
 ghost use lib.ListN.{length};
 ghost use Rattle.profile.specs.Table.{slotsOf};
 ghost use Rattle.profile.specs.Frame.{kindNumber};
-ghost use Rattle.profile.specs.Request.{readRequest};
+ghost use Rattle.profile.specs.Request.{readRequest, retrieve as retrieval, rek};
 ghost use Rattle.profile.specs.Agent.{agent, obey, onBytes, lowestEmpty};
 ghost use Rattle.request_reader.specs.Answer.{bodyMeans};
-ghost use Rattle.decisions.specs.Serving.{Ready, Serves, answerAt};
+ghost use Rattle.decisions.specs.Serving.{Ready, Serves, answerAt, answerTo};
 ghost use Rattle.agent.specs.Call.{outcome, callOf, whyOf, Asks};
 
 // Why an answer is no request.
@@ -30,27 +30,60 @@ fn why_of(ask: Ask) -> Why
     why
 }
 
-// What a request does, kind by kind.
+// Kind 3. Kinds 3 and 4 are functions of their own so that their handles are no locals of `serve`: those would take stack in every call.
+fn retrieve(table: &mut [u8], reply: &mut [u8], asked: Asked)
+    requires { ⌜ Ready (now table) (now reply) ⌝ }
+    ensures { λ _. ⌜ Serves 3 (answerTo (now (table .entry)) (retrieval (asked .handle) (asked .new))) (now (table .entry)) (now (reply .entry)) (now (table .exit)) (now (reply .exit)) ⌝ }
+{
+    let h = asked.handle;
+    let k = asked.new;
+    rights::lend::lend(table, reply, h, k, 3)
+}
+
+// Kind 4.
+fn query_key(table: &mut [u8], reply: &mut [u8], asked: Asked)
+    requires { ⌜ Ready (now table) (now reply) ⌝ }
+    ensures { λ _. ⌜ Serves 4 (answerTo (now (table .entry)) (rek (asked .handle) (asked .new))) (now (table .entry)) (now (reply .entry)) (now (table .exit)) (now (reply .exit)) ⌝ }
+{
+    let h = asked.handle;
+    let k = asked.new;
+    rights::lend::lend(table, reply, h, k, 4)
+}
+
+// What a request does, kind by kind. Each takes from what was read the fields that it has.
 fn serve(table: &mut [u8], frame: &[u8], reply: &mut [u8], asked: Asked, body: Body)
     requires { ⌜ Ready (now table) (now reply) × Asks (now frame) asked body ⌝ }
     ensures { λ _. ⌜ Serves (kindNumber (now (frame .entry))) (answerAt (lowestEmpty (slotsOf (now (table .entry)))) (now (table .entry)) (bodyMeans (now (frame .entry)) body asked)) (now (table .entry)) (now (reply .entry)) (now (table .exit)) (now (reply .exit)) ⌝ }
 {
-    let h = asked.handle;
-    let k = asked.new;
-    let key = asked.key;
     match body {
-        Body::Setup { length } => setups::setup::set_up(table, reply, h, length),
+        Body::Setup { length } => {
+            let h = asked.handle;
+            setups::setup::set_up(table, reply, h, length)
+        }
         Body::Install {
             count,
             hashes,
             at,
             length,
-        } => setups::install::install(table, reply, h, key, count, hashes, frame, at, length),
-        Body::Retrieve => rights::lend::lend(table, reply, h, k, 3),
-        Body::Rek => rights::lend::lend(table, reply, h, k, 4),
-        Body::Enable { count } => rights::enable::enable(table, reply, h, count),
-        Body::Remove => removals::clear(table, reply, h, 6, INSTALLED),
-        Body::Cancel => removals::clear(table, reply, h, 7, AWAITED),
+        } => {
+            let h = asked.handle;
+            let key = asked.key;
+            setups::install::install(table, reply, h, key, count, hashes, frame, at, length)
+        }
+        Body::Retrieve => retrieve(table, reply, asked),
+        Body::Rek => query_key(table, reply, asked),
+        Body::Enable { count } => {
+            let h = asked.handle;
+            rights::enable::enable(table, reply, h, count)
+        }
+        Body::Remove => {
+            let h = asked.handle;
+            removals::clear(table, reply, h, 6, INSTALLED)
+        }
+        Body::Cancel => {
+            let h = asked.handle;
+            removals::clear(table, reply, h, 7, AWAITED)
+        }
         Body::List { limit, hashes, at } => queries::handle_list(
             table,
             reply,
@@ -59,7 +92,10 @@ fn serve(table: &mut [u8], frame: &[u8], reply: &mut [u8], asked: Asked, body: B
             frame,
             at,
         ),
-        Body::Info => queries::info(table, reply, h),
+        Body::Info => {
+            let h = asked.handle;
+            queries::info(table, reply, h)
+        }
     }
 }
 

@@ -7,7 +7,6 @@ use Rattle.profile.specs.Bytes.{Bytes256}
 use Rattle.request_reader.specs.declared.asked.Ask.the-variants.{Yes}
 use Rattle.request_reader.proofs.ByCase.{install-within, list-within}
 use Rattle.octets.proofs.ByteBounds.{below-256}
-use Rattle.rights.proofs.Outcomes.{retrieved, queried}
 use Rattle.removals.proofs.Cleared.{removed, cancelled}
 use Rattle.queries.proofs.Untouched.{list-keeps, info-keeps}
 use Rattle.agent.proofs.Steps.{served-at, served}
@@ -15,11 +14,11 @@ use Rattle.agent.proofs.serve.Statement.{statement}
 use Rattle.agent.proofs.serve.Tie as tie
 
 -- from the match on the body, back to the start
-abbrev start : tie.After-key → tie.Start
-start m = m .before .before .before .before .before .before
+abbrev start : tie.After-slice-known2 → tie.Start
+start m = m .before .before .before
 
-bytes : (m : tie.After-key) → Bytes256 (now (start m .args .table))
-bytes m = below-256 (now (start m .args .table)) (m .before .before .before .before .before .slice-known .given)
+bytes : (m : tie.After-slice-known2) → Bytes256 (now (start m .args .table))
+bytes m = below-256 (now (start m .args .table)) (m .before .before .slice-known .given)
 
 enum-known-body : tie.Need-enum-known-body
 enum-known-body c = search needs
@@ -32,7 +31,7 @@ enum-known-body-2 c = search needs
 
 install-requires : tie.Need-install-requires
 install-requires c κs =
-    let told = c .before .before .before in
+    let told = c .before .before .before .before .before in
     let s = start (told .before .before) in
     let w = install-within (now (s .args .frame)) (s .args .asked) (s .pre .1 .answers) _ _ _ _ (s .pre .1 .yes ∙ ap Yes (told .body2 .given .1)) in
     (s .pre .0, record { few = w .few; some-payload = w .least; short = w .most; inside = omega (arith, w .ends) })
@@ -40,14 +39,14 @@ install-requires c κs =
 enum-told : tie.Need-enum-told
 enum-told c = search needs
 
-lend-requires : tie.Need-lend-requires
-lend-requires c κs = search needs
+retrieve-requires : tie.Need-retrieve-requires
+retrieve-requires c κs = search needs
 
 enum-told-2 : tie.Need-enum-told-2
 enum-told-2 c = search needs
 
-lend-requires-2 : tie.Need-lend-requires-2
-lend-requires-2 c κs = search needs
+query-key-requires : tie.Need-query-key-requires
+query-key-requires c κs = search needs
 
 enum-known-body-3 : tie.Need-enum-known-body-3
 enum-known-body-3 c = search needs
@@ -92,7 +91,7 @@ same-length-2 c = search needs
 returns : tie.Need-returns
 returns c =
     let done = c .before .before .before .before in
-    let told = done .before .before .before .before in
+    let told = done .before .before .before .before .before in
     served-at (start (told .before .before) .pre .1) _ (told .body .given .1) (done .set-up .ensures)
 
 same-length-3 : tie.Need-same-length-3
@@ -104,7 +103,7 @@ same-length-4 c = search needs
 returns-2 : tie.Need-returns-2
 returns-2 c =
     let done = c .before .before .before .before in
-    let told = done .before .before .before .before in
+    let told = done .before .before .before .before .before .before in
     served (start (told .before .before) .pre .1) _ (told .body2 .given .1) (omega arith) (done .install .ensures)
 
 same-length-5 : tie.Need-same-length-5
@@ -117,7 +116,7 @@ returns-3 : tie.Need-returns-3
 returns-3 c =
     let done = c .before .before .before .before in
     let told = done .before .before .before in
-    served (start (told .before .before) .pre .1) _ (told .enum-told .given .1) (omega arith) (retrieved _ _ (done .lend .ensures))
+    served (start (told .before .before) .pre .1) _ (told .enum-told .given .1) (omega arith) (done .retrieve .ensures)
 
 same-length-7 : tie.Need-same-length-7
 same-length-7 c = search needs
@@ -129,7 +128,7 @@ returns-4 : tie.Need-returns-4
 returns-4 c =
     let done = c .before .before .before .before in
     let told = done .before .before .before in
-    served (start (told .before .before) .pre .1) _ (told .enum-told2 .given .1) (omega arith) (queried _ _ (done .lend2 .ensures))
+    served (start (told .before .before) .pre .1) _ (told .enum-told2 .given .1) (omega arith) (done .query-key .ensures)
 
 same-length-9 : tie.Need-same-length-9
 same-length-9 c = search needs
@@ -140,7 +139,7 @@ same-length-10 c = search needs
 returns-5 : tie.Need-returns-5
 returns-5 c =
     let done = c .before .before .before .before in
-    let told = done .before .before .before .before in
+    let told = done .before .before .before .before .before in
     served (start (told .before .before) .pre .1) _ (told .body3 .given .1) (omega arith) (done .enable .ensures)
 
 same-length-11 : tie.Need-same-length-11
@@ -152,7 +151,7 @@ same-length-12 c = search needs
 returns-6 : tie.Need-returns-6
 returns-6 c =
     let done = c .before .before .before .before in
-    let told = done .before .before .before in
+    let told = done .before .before .before .before in
     served (start (told .before .before) .pre .1) _ (told .enum-told3 .given .1) (omega arith) (removed _ (done .clear .ensures))
 
 same-length-13 : tie.Need-same-length-13
@@ -164,7 +163,7 @@ same-length-14 c = search needs
 returns-7 : tie.Need-returns-7
 returns-7 c =
     let done = c .before .before .before .before in
-    let told = done .before .before .before in
+    let told = done .before .before .before .before in
     served (start (told .before .before) .pre .1) _ (told .enum-told4 .given .1) (omega arith) (cancelled _ (done .clear2 .ensures))
 
 same-length-15 : tie.Need-same-length-15
@@ -191,7 +190,7 @@ same-length-18 c = search needs
 returns-9 : tie.Need-returns-9
 returns-9 c =
     let done = c .before .before in
-    let told = done .before .before .before in
+    let told = done .before .before .before .before in
     let m = told .before .before in
     let s = start m in
     let kept = info-keeps (now (s .args .table)) (bytes m) (s .pre .0 .whole) (s .pre .0 .well) _ in
@@ -206,9 +205,9 @@ serve-spec =
     enum-known-body-2
     install-requires
     enum-told
-    lend-requires
+    retrieve-requires
     enum-told-2
-    lend-requires-2
+    query-key-requires
     enum-known-body-3
     enable-requires
     enum-told-3
