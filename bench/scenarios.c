@@ -46,10 +46,11 @@ static void fill_with_hashes(struct scenario *s) {
     for (unsigned i = 0; i < SLOTS; i++) put_slot(s->table + SLOT * i, ENABLED, 8, 100);
 }
 
-static void make_handles_alike(struct scenario *s) {
+/* Handles that differ in one of their ten bytes. */
+static void make_handles_alike(struct scenario *s, unsigned but) {
     for (unsigned i = 0; i < SLOTS; i++) {
-        memset(s->table + SLOT * i + 1, 7, 9);
-        s->table[SLOT * i + 10] = (uint8_t)i;
+        memset(s->table + SLOT * i + 1, 7, 10);
+        s->table[SLOT * i + 1 + but] = (uint8_t)i;
     }
 }
 
@@ -130,7 +131,13 @@ int make_scenario(struct scenario *s, unsigned index) {
     case 9:
         s->name = "full, 100 bytes each, handles that differ in the last byte, list query";
         fill(s, 15, 100);
-        make_handles_alike(s);
+        make_handles_alike(s, 9);
+        ask_list(s);
+        break;
+    case 10:
+        s->name = "full, 100 bytes each, handles that differ in the last byte but one, list query";
+        fill(s, 15, 100);
+        make_handles_alike(s, 8);
         ask_list(s);
         break;
     default: return 0;
