@@ -1,12 +1,12 @@
 # The commands of the README. Each needs the Rattle toolchain (`rt`), cargo and a C compiler; `fuzz` needs clang, and `planted`
-# and `definitions` need Python 3.
+# and `definitions` need Python 3. To measure the stack, `test` and `bench` need Python 3 and an objdump that reads x86-64 code.
 .PHONY: demo test bench fuzz planted definitions
 
 # Walks one course through a card, step by step, with the proved library.
 demo:
 	@scripts/demo
 
-# Checks layout, proofs, must-fail edits, programs, C and Rust tests; ends in 'N passed, M failed'.
+# Checks layout, proofs, must-fail edits, programs, stack, C and Rust tests; ends in 'N passed, M failed'.
 test:
 	@scripts/test
 
