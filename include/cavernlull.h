@@ -22,8 +22,8 @@ extern "C" {
 /* The version of the library. */
 #define CAVERNLULL_VERSION_MAJOR 2
 #define CAVERNLULL_VERSION_MINOR 0
-#define CAVERNLULL_VERSION_PATCH 0
-#define CAVERNLULL_VERSION "2.0.0"
+#define CAVERNLULL_VERSION_PATCH 1
+#define CAVERNLULL_VERSION "2.0.1"
 
 /* Sizes in bytes, and the most slots and hashes (PROFILE 1.3). */
 enum {
