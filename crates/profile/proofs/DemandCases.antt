@@ -6,8 +6,8 @@ use mathlib.Core.Option.{some, Option·some-injective}
 use native.Mathlib.Omega.{arith}
 use lib.ListN.{length, getElem?}
 use Rattle.profile.specs.Bytes.{Bytes, byte, zeros, over, In}
-use Rattle.profile.specs.Table.{unpack, image, pack, wellSlot, slotBytes, slotsOf, tableOf, wholeSlots, wellTable}
-use Rattle.profile.specs.Slot.{reserved, enabled, disabled, Slot, empty, taken}
+use Rattle.profile.specs.Table.{unpack, image, pack, wellRest, wellSlot, slotBytes, slotsOf, tableOf, wholeSlots, wellTable}
+use Rattle.profile.specs.Slot.{keptBit, countNumber, reserved, enabled, disabled, Slot, empty, taken}
 use Rattle.profile.specs.Frame.{frame}
 use Rattle.profile.specs.Request.{Request, rek, retrieve, readRequest, numberOf}
 use Rattle.profile.specs.Agent.{act, replyFrame, agent}
@@ -46,7 +46,7 @@ lends-small by-retrieval = omega arith
 lends-small by-rek = omega arith
 
 pub demands-hold : DemandCases.Hold
-unfolding slotNumber firstStatus firstKind agent wholeSlots zeros wellTable slotBytes wellSlot slotsOf unpack readRequest over replyFrame frame act tableOf pack image
+unfolding slotNumber firstStatus firstKind agent wholeSlots zeros wellTable slotBytes wellRest wellSlot slotsOf unpack readRequest over replyFrame frame act tableOf pack image
 demands-hold =
     record {
       missing = λ r. not-equal 0 2 (λ t. t) (ap slotNumber (in-one (taken H1 (enabled plain)) empty (r .used H1 plain .1 (0, refl))));
@@ -59,7 +59,8 @@ demands-hold =
       other-key = λ c. not-equal 0xE0 1 (λ t. t) (ap (byte 0) (c .each 0 _ _ refl refl .key));
       other-hash = λ c. not-equal 1 0 (λ t. t) (ap (λ (hs : List Bytes). length hs) (c .each 0 _ _ refl refl .hashes));
       other-payload = λ c. not-equal 1 5 (λ t. t) (ap (λ (p : Bytes). length p) (c .each 0 _ _ refl refl .payload));
-      other-count = λ c. not-equal 8 7 (λ t. t) (c .each 0 _ _ refl refl .count);
+      other-count = λ c. not-equal 8 7 (λ t. t) (ap countNumber (c .each 0 _ _ refl refl .count));
+      other-bit = λ c. not-equal 0 1 (λ t. t) (ap keptBit (c .each 0 _ _ refl refl .count));
       by-rek = record { asked = rek H1 H2; lends = by-rek; success = refl };
       by-retrieval = record { asked = retrieve H3 H4; lends = by-retrieval; success = refl };
       absent = λ o. not-equal 4 0 (λ t. t) (ap firstStatus (o .success));
@@ -72,6 +73,8 @@ demands-hold =
       last-counts = refl;
       sent-again = refl;
       no-longer = refl;
+      used-up = refl;
+      given-up = refl;
       holds = refl;
       alike =
           record {

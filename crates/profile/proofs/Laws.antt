@@ -1,5 +1,5 @@
 -- The laws of slots and setups hold (PROFILE 2.5, 4 and 5.1): rules said in another way than their definitions say them.
-use Prim.Native.Nat.{ℕ, zero, suc, _≤_, _<_}
+use Prim.Native.Nat.{ℕ, zero, suc, _+_, _%_, _≤_, _<_}
 use mathlib.Core.Path.{_≡_, refl, sym, ap, _∙_, subst}
 use mathlib.Core.List.{List, [], _∷_}
 use mathlib.Core.Option.{Option, none, some, Option·some-injective}
@@ -14,9 +14,10 @@ use Rattle.profile.specs.Slot.{Right, Entry, reserved, enabled, disabled
 use Rattle.profile.specs.Table.{slotsOf, wholeSlots, wellTable}
 use Rattle.profile.specs.Frame.{kindNumber, frame}
 use Rattle.profile.specs.Request.{setup, Read, asks, refused, noFrame, readRequest}
-use Rattle.profile.specs.Agent.{Given, Found, absent, one, next, find, Answer, deny, done, act, lowestEmpty, replyFrame, Call, refuse, replied, obey, onBytes, agent}
+use Rattle.profile.specs.Agent.{Given, Found, absent, one, next, find, Answer, deny, done, act, lowestEmpty, statusByte, replyFrame, Call, refuse, replied, obey, onBytes, agent}
 use Rattle.profile.specs.Laws.{Apart, Refuses, FoundIs, SetsLowest, is-empty}
-use Rattle.profile.proofs.Logic.{both, and-parts, not-true, same-refl, split}
+use Rattle.profile.proofs.Logic.{both, and-parts, not-true, eqb-true, same-refl, split}
+use Rattle.profile.proofs.Frames.{coded}
 use Rattle.profile.proofs.Numbers.{agent-103, by-agent}
 use Rattle.profile.proofs.WellFormed.{table-distinct}
 use Rattle.profile.proofs.Steps.{acts}
@@ -123,8 +124,8 @@ module _ (table : Bytes) (c : Call) where
 
   refused-status : (a : Answer) → Refuses table c (replied (kindNumber (c .request)) a table (c .buffer))
   unfolding over replyFrame frame
-  refused-status (deny r) = record { by-number = λ z. absurd (true≢false z); by-status = λ _ _. (refl, refl) }
-  refused-status (done g u) = record { by-number = λ z. absurd (true≢false z); by-status = λ _ z. absurd (true≢false z) }
+  refused-status (deny r) = record { by-number = λ z. absurd (true≢false z); by-status = λ _ _. (ap (λ (s : ℕ). over ((32 + kindNumber (c .request)) ∷ s ∷ 0 ∷ 0 ∷ []) (c .buffer)) (sym (coded r .low)), refl) }
+  refused-status (done g u) = record { by-number = λ z. absurd (true≢false z); by-status = λ _ z. absurd (true≢false (sym (eqb-true (statusByte (done g u) % 128) 0 (omega arith)) ∙ z)) }
 
   pub refuses : Refuses table c (agent table c)
   refuses = by-agent table c (Refuses table c) refused-number (λ _ _ free _. obeyed (readRequest (c .request)) free)

@@ -8,7 +8,7 @@ use Rattle.profile.proofs.Logic.{not-equal, not-over}
 least-right : RightFits least
 least-right =
     record {
-      room = record { key-16 = refl; counts = tt; hashed = record { each = tt; few = leb→le 0 8 tt }; short = leb→le 1 4096 tt };
+      room = record { key-16 = refl; hashed = record { each = tt; few = leb→le 0 8 tt }; short = leb→le 1 4096 tt };
       some-payload = leb→le 1 1 tt;
     }
 
@@ -18,7 +18,6 @@ most-right =
       room =
           record {
             key-16 = refl;
-            counts = tt;
             hashed = record { each = (refl, (refl, (refl, (refl, (refl, (refl, (refl, (refl, tt)))))))); few = leb→le 8 8 tt };
             short = leb→le 4096 4096 tt;
           };
@@ -55,7 +54,7 @@ sizes-hold =
       install-fits = (refl, most-right);
       retrieve-fits = (refl, refl);
       rek-fits = (refl, refl);
-      enable-fits = (refl, tt);
+      enable-fits = refl;
       remove-fits = refl;
       cancel-fits = refl;
       list-fits = most-right .room .hashed;
@@ -67,7 +66,7 @@ sizes-hold =
       retrieve-11 = λ f. not-equal 11 10 (λ t. t) (f .1);
       rek-9 = λ f. not-equal 9 10 (λ t. t) (f .0);
       rek-11 = λ f. not-equal 11 10 (λ t. t) (f .1);
-      enable-9 = λ f. not-equal 9 10 (λ t. t) (f .0);
+      enable-9 = λ f. not-equal 9 10 (λ t. t) f;
       remove-9 = λ f. not-equal 9 10 (λ t. t) f;
       cancel-11 = λ f. not-equal 11 10 (λ t. t) f;
       list-9 = λ f. not-over 9 8 (λ t. t) (f .few);

@@ -11,6 +11,7 @@ use Rattle.profile.proofs.Pack.{unpack-pack}
 use Rattle.profile.proofs.Unpack.{pack-unpack}
 use Rattle.profile.proofs.Tables.{slots-table, table-slots, well-table, whole-table}
 use Rattle.profile.proofs.WellFormed.{table-fits, table-distinct}
+use Rattle.profile.proofs.Turning.{turns, turn-refuses, turned-once}
 use Rattle.profile.proofs.Lookup.{under-once}
 use Rattle.profile.proofs.Frames.{reads}
 use Rattle.profile.proofs.Requests.{read-fits, read-write}
@@ -23,6 +24,7 @@ use Rattle.profile.proofs.Laws.{apart, apart-distinct, refuses, twice-1
 use Rattle.profile.proofs.ListLaws.{lists-exactly, lists-only}
 use Rattle.profile.proofs.BytesCases.{bytes-hold}
 use Rattle.profile.proofs.TableCases.{tables-hold}
+use Rattle.profile.proofs.TurningCases.{turnings-hold}
 use Rattle.profile.proofs.RequestCases.{requests-hold}
 use Rattle.profile.proofs.ActCases.{acts-hold}
 use Rattle.profile.proofs.Cases.{cases-hold}
@@ -51,6 +53,9 @@ theorems =
       unpacks = λ table y whole well. record { fit = table-fits table whole well; apart = table-distinct table whole well; again = table-slots table y whole well };
       packs = packs;
       apart = λ t. (apart t, apart-distinct t);
+      turns = turns;
+      turn-refuses = turn-refuses;
+      turned-once = turned-once;
       read-fits = λ f q e. read-fits f q (rw e at (reads f));
       read-write = read-write;
       written-reads = written-reads;
@@ -70,6 +75,7 @@ theorems =
       bytes-hold = bytes-hold;
       sizes-hold = sizes-hold;
       tables-hold = tables-hold;
+      turnings-hold = turnings-hold;
       requests-hold = requests-hold;
       acts-hold = acts-hold;
       cases-hold = cases-hold;

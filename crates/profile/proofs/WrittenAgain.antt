@@ -1,6 +1,6 @@
 -- PROFILE 6.4: a frame that reads as a request is written again, by the device's writer and from the fields read, to the same bytes, but for a verdict of 0 in kinds 8 and 9.
 use Prim.Native.Nat.{ℕ, _+_, _*_, _/_, _%_, _≤_}
-use mathlib.Core.Path.{_≡_, refl, sym, ap, _∙_}
+use mathlib.Core.Path.{_≡_, refl, sym, ap, ap₂, _∙_}
 use mathlib.Core.List.{List, [], _∷_, append-nil}
 use mathlib.Core.Option.{some}
 use mathlib.Core.Bool.{Bool, true, false, _&&_}
@@ -10,13 +10,14 @@ use lib.ListN.{length, drop, length-drop}
 use lib.Seq.{drop-cons}
 use Rattle.profile.specs.Bytes.{Bytes, Bytes256, byte, word, zeros, over, joined, pieces}
 use Rattle.profile.specs.Sizes.{hashSize, mostHashes}
-use Rattle.profile.specs.Slot.{Count, HashesFit}
+use Rattle.profile.specs.Slot.{Count, keptBit, countNumber, countHolds, HashesFit}
 use Rattle.profile.specs.Frame.{Kind, Setup, Install, Retrieve, Rek, Enable, Remove, Cancel, List', Info, kindOf, kindNumber}
 use Rattle.profile.specs.Request.{Request, setup, install, retrieve, rek, enable, remove, cancel, list, info, asks, verdict, guarded, fields, readRequest, withVerdict, RequestFits}
 use Rattle.profile.specs.Device.{wholeHashes, kindHolds, requestOf, fieldsWith, fieldsIn, Arrays, Written, write}
 use Rattle.profile.specs.Theorems.{WrittenAgain}
 use Rattle.profile.proofs.Logic.{both, and-parts, eqb-true, leb-le, leb-true, ltb-false, from-1-to, positive}
 use Rattle.profile.proofs.Strings.{length-zeros, length-each, pieces-joined}
+use Rattle.profile.proofs.Counts.{kept-small, count-holds, count-back}
 use Rattle.profile.proofs.Frames.{Reads, reads}
 use Rattle.profile.proofs.Requests.{read-fits, kind-number, write-reads}
 
@@ -58,13 +59,17 @@ module _ (hs : List Bytes) (z : HashesFit hashSize mostHashes hs) where
       let n : length (joined hs) / 20 ≡ length hs = omega (arith, size) in
       rw n (ap (pieces hashSize (length hs)) (sym (append-nil (joined hs))) ∙ pieces-joined hashSize hs [] (z .each))
 
+-- a count's number and bit say a count
+count-said : (c : Count) → (leb (keptBit c) 1 && countHolds (keptBit c) (countNumber c)) ≡ true
+count-said c = both (leb-true (keptBit c) 1 (omega (arith, kept-small c))) (count-holds c)
+
 allowed : (q : Request) → RequestFits q → (wholeHashes (fieldsIn q .hashes) && kindHolds (kindFor q) (fieldsIn q)) ≡ true
 unfolding kindFor zeros
 allowed (setup h n) z = refl
-allowed (install h r) z = both (whole (r .hashes) (z .1 .room .hashed)) (from-1-to {n = length (r .payload)} {m = 4096} (z .1 .some-payload) (z .1 .room .short))
+allowed (install h r) z = both (whole (r .hashes) (z .1 .room .hashed)) (both (count-said (r .count)) (from-1-to {n = length (r .payload)} {m = 4096} (z .1 .some-payload) (z .1 .room .short)))
 allowed (retrieve h k) z = refl
 allowed (rek h k) z = refl
-allowed (enable h c) z = refl
+allowed (enable h c) z = count-said c
 allowed (remove h) z = refl
 allowed (cancel h) z = refl
 allowed (list limit q) z = both (whole q z) refl
@@ -73,29 +78,31 @@ allowed (info h) z = refl
 back : (q : Request) → RequestFits q → requestOf (kindFor q) (fieldsIn q) ≡ q
 unfolding kindFor
 back (setup h n) z = refl
-back (install h r) z = ap {B = Request} (λ (hs : List Bytes). install h (record { key = r .key; count = r .count; hashes = hs; payload = r .payload })) (cut-again (r .hashes) (z .1 .room .hashed))
+back (install h r) z =
+    ap₂ {C = Request} (λ (c : Count) (hs : List Bytes). install h (record { key = r .key; count = c; hashes = hs; payload = r .payload }))
+    (count-back (r .count)) (cut-again (r .hashes) (z .1 .room .hashed))
 back (retrieve h k) z = refl
 back (rek h k) z = refl
-back (enable h c) z = refl
+back (enable h c) z = ap {B = Request} (enable h) (count-back c)
 back (remove h) z = refl
 back (cancel h) z = refl
 back (list limit q) z = ap {B = Request} (list limit) (cut-again q z)
 back (info h) z = refl
 
-arrays-with : (h k key : Bytes) (room : ℕ) (c : Count) (limit : ℕ) (hashes payload : Bytes)
-    → length h ≡ 10 → length k ≡ 10 → length key ≡ 16 → Arrays (fieldsWith h k key room c limit hashes payload)
-arrays-with h k key room c limit hashes payload a b d = record { handle-10 = a; new-10 = b; key-16 = d }
+arrays-with : (h k key : Bytes) (room c bit limit : ℕ) (hashes payload : Bytes)
+    → length h ≡ 10 → length k ≡ 10 → length key ≡ 16 → Arrays (fieldsWith h k key room c bit limit hashes payload)
+arrays-with h k key room c bit limit hashes payload a b d = record { handle-10 = a; new-10 = b; key-16 = d }
 
 arrays : (q : Request) → RequestFits q → Arrays (fieldsIn q)
-arrays (setup h n) z = arrays-with _ _ _ _ _ _ _ _ z (length-zeros 10) (length-zeros 16)
-arrays (install h r) z = arrays-with _ _ _ _ _ _ _ _ (z .0) (length-zeros 10) (z .1 .room .key-16)
-arrays (retrieve h k) z = arrays-with _ _ _ _ _ _ _ _ (z .0) (z .1) (length-zeros 16)
-arrays (rek h k) z = arrays-with _ _ _ _ _ _ _ _ (z .0) (z .1) (length-zeros 16)
-arrays (enable h c) z = arrays-with _ _ _ _ _ _ _ _ (z .0) (length-zeros 10) (length-zeros 16)
-arrays (remove h) z = arrays-with _ _ _ _ _ _ _ _ z (length-zeros 10) (length-zeros 16)
-arrays (cancel h) z = arrays-with _ _ _ _ _ _ _ _ z (length-zeros 10) (length-zeros 16)
-arrays (list limit q) z = arrays-with _ _ _ _ _ _ _ _ (length-zeros 10) (length-zeros 10) (length-zeros 16)
-arrays (info h) z = arrays-with _ _ _ _ _ _ _ _ z (length-zeros 10) (length-zeros 16)
+arrays (setup h n) z = arrays-with _ _ _ _ _ _ _ _ _ z (length-zeros 10) (length-zeros 16)
+arrays (install h r) z = arrays-with _ _ _ _ _ _ _ _ _ (z .0) (length-zeros 10) (z .1 .room .key-16)
+arrays (retrieve h k) z = arrays-with _ _ _ _ _ _ _ _ _ (z .0) (z .1) (length-zeros 16)
+arrays (rek h k) z = arrays-with _ _ _ _ _ _ _ _ _ (z .0) (z .1) (length-zeros 16)
+arrays (enable h c) z = arrays-with _ _ _ _ _ _ _ _ _ z (length-zeros 10) (length-zeros 16)
+arrays (remove h) z = arrays-with _ _ _ _ _ _ _ _ _ z (length-zeros 10) (length-zeros 16)
+arrays (cancel h) z = arrays-with _ _ _ _ _ _ _ _ _ z (length-zeros 10) (length-zeros 16)
+arrays (list limit q) z = arrays-with _ _ _ _ _ _ _ _ _ (length-zeros 10) (length-zeros 10) (length-zeros 16)
+arrays (info h) z = arrays-with _ _ _ _ _ _ _ _ _ z (length-zeros 10) (length-zeros 16)
 
 -- ---- the verdict
 -- kinds 1 to 7 ask for it

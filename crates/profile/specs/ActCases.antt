@@ -5,7 +5,7 @@ use mathlib.Core.List.{List, [], _∷_, _++_, map}
 use mathlib.Core.Bool.{Bool, true, false}
 use lib.ListN.{take, replicate}
 use Rattle.profile.specs.Bytes.{Bytes, joined, pieces}
-use Rattle.profile.specs.Slot.{Right, rightWith, recount, reserved, enabled, disabled, Slot, empty, taken}
+use Rattle.profile.specs.Slot.{NoneKept, Kept, Right, rightWith, recount, reserved, enabled, disabled, Slot, empty, taken}
 use Rattle.profile.specs.Frame.{Refusal, parameter, notFound, duplicate, unexpected, noSpace}
 use Rattle.profile.specs.Request.{Request, setup, install, retrieve, rek, enable, remove, cancel, list, info}
 use Rattle.profile.specs.Agent.{Given, nothing, theRight, theKey, handles, counted, Answer, deny, done, act, lowestEmpty, firstOf}
@@ -26,22 +26,22 @@ gives t q g u = record { slots = t; request = q; answer = done g u }
 
 -- ---- rights: with no hash, with A and B, with B alone, with eight hashes; a key of zeros; six bytes of payload
 abbrev pub plain : Right
-plain = rightWith K 7 [] five
+plain = rightWith K (Kept 7) [] five
 
 abbrev pub both : Right
-both = rightWith L 258 (A ∷ B ∷ []) (hex "BC")
+both = rightWith L (Kept 258) (A ∷ B ∷ []) (hex "BC")
 
 abbrev pub onlyB : Right
-onlyB = rightWith L 258 (B ∷ []) (hex "BC")
+onlyB = rightWith L (Kept 258) (B ∷ []) (hex "BC")
 
 abbrev pub full8 : Right
-full8 = rightWith K 0 (pieces 20 8 eight) five
+full8 = rightWith K NoneKept (pieces 20 8 eight) five
 
 abbrev pub zeroKey : Right
-zeroKey = rightWith (replicate 16 0x00) 7 [] five
+zeroKey = rightWith (replicate 16 0x00) (Kept 7) [] five
 
 abbrev pub six : Right
-six = rightWith K 7 [] (hex "A1 A2 A3 A4 A5 A6")
+six = rightWith K (Kept 7) [] (hex "A1 A2 A3 A4 A5 A6")
 
 -- ---- slots: H1 reserved, H2 enabled, H3 disabled; an empty one after them
 abbrev pub full : List Slot
@@ -116,12 +116,15 @@ lendings =
 unfoldable pub others : List Case
 others =
     -- 5.5
-    denies full (enable H4 3) notFound
-    ∷ denies full (enable H1 3) unexpected
-    ∷ gives full (enable H2 3) nothing full
-    ∷ gives full (enable H3 3) nothing (taken H1 (reserved 5) ∷ taken H2 (enabled both) ∷ taken H3 (enabled (recount 3 plain)) ∷ [])
-    ∷ gives full (enable H3 0) nothing (taken H1 (reserved 5) ∷ taken H2 (enabled both) ∷ taken H3 (enabled (rightWith K 0 [] five)) ∷ [])
-    ∷ gives (taken H2 (disabled both) ∷ []) (enable H2 65535) nothing (taken H2 (enabled (rightWith L 65535 (A ∷ B ∷ []) (hex "BC"))) ∷ [])
+    denies full (enable H4 (Kept 3)) notFound
+    ∷ denies full (enable H1 (Kept 3)) unexpected
+    ∷ gives full (enable H2 (Kept 3)) nothing full
+    ∷ gives full (enable H2 NoneKept) nothing full
+    ∷ gives full (enable H3 (Kept 3)) nothing (taken H1 (reserved 5) ∷ taken H2 (enabled both) ∷ taken H3 (enabled (recount (Kept 3) plain)) ∷ [])
+    -- used up, a count is still kept; none is kept only where the request says so
+    ∷ gives full (enable H3 (Kept 0)) nothing (taken H1 (reserved 5) ∷ taken H2 (enabled both) ∷ taken H3 (enabled (rightWith K (Kept 0) [] five)) ∷ [])
+    ∷ gives full (enable H3 NoneKept) nothing (taken H1 (reserved 5) ∷ taken H2 (enabled both) ∷ taken H3 (enabled (rightWith K NoneKept [] five)) ∷ [])
+    ∷ gives (taken H2 (disabled both) ∷ []) (enable H2 (Kept 65535)) nothing (taken H2 (enabled (rightWith L (Kept 65535) (A ∷ B ∷ []) (hex "BC"))) ∷ [])
     -- 5.6
     ∷ denies full (remove H4) notFound
     ∷ denies full (remove H1) unexpected
@@ -136,7 +139,7 @@ others =
     ∷ denies full (info H4) notFound
     ∷ denies full (info H1) unexpected
     ∷ denies full (info H3) unexpected
-    ∷ gives full (info H2) (counted 258 (hex "BC")) full
+    ∷ gives full (info H2) (counted (Kept 258) (hex "BC")) full
     ∷ []
 
 -- ---- PROFILE 5.8: empty, H1 with no hash, reserved, H3 with A and B, disabled with A and B, H2 with B

@@ -1,5 +1,5 @@
 -- PROFILE 8.3, whole: what holds after every sequence of calls on an all-zero table.
-use Prim.Native.Nat.{ℕ}
+use Prim.Native.Nat.{ℕ, _*_}
 use mathlib.Core.Path.{_≡_}
 use mathlib.Core.Logic.{_↔_}
 use mathlib.Core.List.{List, [], _∷_, _++_}
@@ -8,7 +8,7 @@ use mathlib.Core.Bool.{Bool, true, false, _&&_}
 use lib.Dec.{eqb}
 use lib.ListN.{getElem?, take, drop}
 use Rattle.profile.specs.Bytes.{Bytes, same, part, any, In, over}
-use Rattle.profile.specs.Slot.{Count, Right, Entry, reserved, enabled, disabled, Slot, taken}
+use Rattle.profile.specs.Slot.{Count, keptBit, Right, Entry, reserved, enabled, disabled, Slot, taken}
 use Rattle.profile.specs.Table.{slotBytes, slotsOf, wholeSlots, wellTable}
 use Rattle.profile.specs.Frame.{frame, writeRight}
 use Rattle.profile.specs.Request.{Request, setup, install, retrieve, rek, enable, remove, cancel, list, info}
@@ -64,7 +64,7 @@ pub record LentOut (l l′ : Ledger) (asked : Request) (h k buffer reply : Bytes
   pub for-use : rightNumber number l ≡ some (forUse h right)
   pub sent : part 4 16 reply ≡ right .key
   -- kind 3 sends this right whole, kind 4 its key; nothing else of the buffer is changed, so nothing of another right goes out
-  pub whole : asked ≡ retrieve h k → reply ≡ over (frame 3 0 (writeRight right)) buffer
+  pub whole : asked ≡ retrieve h k → reply ≡ over (frame 3 (128 * keptBit (right .count)) (writeRight right)) buffer
   pub alone : asked ≡ rek h k → reply ≡ over (frame 4 0 (right .key)) buffer
   pub then-lent : (i : ℕ) (r : Right) → rightNumber i l ≡ some (forUse h r) → rightNumber i l′ ≡ some (lent k r)
 

@@ -5,12 +5,12 @@ use mathlib.Core.List.{List, [], _∷_, _++_, map}
 use mathlib.Core.Bool.{true, false}
 use lib.ListN.{take, drop, replicate}
 use Rattle.profile.specs.Bytes.{Bytes}
-use Rattle.profile.specs.Slot.{rightWith, reserved, enabled, empty, taken}
+use Rattle.profile.specs.Slot.{NoneKept, Kept, rightWith, reserved, enabled, empty, taken}
 use Rattle.profile.specs.Request.{install, rek, retrieve, enable, remove}
 use Rattle.profile.specs.Agent.{Call}
 use Rattle.profile.specs.History.{Owned, forUse, lent, gone, Ledger, blankLedger, Exchange}
 use Rattle.profile.specs.CaseBytes.{hex, changed, H1, H2, H3, H4, K, L, A, five}
-use Rattle.profile.specs.CaseTables.{blank, after7, after9, hashed2, waiting}
+use Rattle.profile.specs.CaseTables.{blank, after7, after9, counted7, hashed2, waiting}
 use Rattle.profile.specs.HistoryCases.{plain, other, asking}
 use Rattle.profile.specs.Contents.{installations, lastCount, held, Contents}
 use Rattle.profile.specs.Demand3.{Records, KeyOut, returned, AlikeButKeys}
@@ -27,17 +27,17 @@ rekeyed key s = take 11 s ++ key ++ drop 27 s
 abbrev pub ledgerOf : List Owned → Ledger
 ledgerOf rights = record { setups = []; rights = rights }
 
--- ---- exchanges: two rights with equal bytes; the first is lent, comes back with the count 3, is lent again and comes back with 2; the second is removed;
+-- ---- exchanges: two rights with equal bytes; the first is lent, comes back with a kept count of 3, is lent again and comes back with 2; the second is removed;
 -- among them requests that are refused, and a return that is sent again
 abbrev pub later : List Exchange
 later =
     asking (install H1 plain) 0
-    ∷ asking (enable H2 9) 4
-    ∷ asking (enable H2 3) 0
-    ∷ asking (enable H2 8) 0
+    ∷ asking (enable H2 (Kept 9)) 4
+    ∷ asking (enable H2 (Kept 3)) 0
+    ∷ asking (enable H2 (Kept 8)) 0
     ∷ asking (retrieve H2 H3) 0
     ∷ asking (rek H3 H4) 6
-    ∷ asking (enable H3 2) 0
+    ∷ asking (enable H3 (Kept 2)) 0
     ∷ asking (remove H1) 0
     ∷ asking (install H1 other) 7
     ∷ []
@@ -56,10 +56,11 @@ pub record Hold : Type 0 where
   -- rights hold what was sent: not where there is none, where none was installed, or with another key, hash, payload or count
   pub lost : ¬ Contents (asking (install H1 plain) 0 ∷ []) blankLedger
   pub refused : ¬ Contents (asking (install H1 plain) 7 ∷ []) (ledgerOf (forUse H1 plain ∷ []))
-  pub other-key : ¬ Contents (asking (install H1 plain) 0 ∷ []) (ledgerOf (forUse H1 (rightWith L 7 [] five) ∷ []))
-  pub other-hash : ¬ Contents (asking (install H1 plain) 0 ∷ []) (ledgerOf (forUse H1 (rightWith K 7 (A ∷ []) five) ∷ []))
-  pub other-payload : ¬ Contents (asking (install H1 plain) 0 ∷ []) (ledgerOf (lent H1 (rightWith K 7 [] (hex "BC")) ∷ []))
-  pub other-count : ¬ Contents (asking (install H1 plain) 0 ∷ []) (ledgerOf (gone (rightWith K 8 [] five) ∷ []))
+  pub other-key : ¬ Contents (asking (install H1 plain) 0 ∷ []) (ledgerOf (forUse H1 (rightWith L (Kept 7) [] five) ∷ []))
+  pub other-hash : ¬ Contents (asking (install H1 plain) 0 ∷ []) (ledgerOf (forUse H1 (rightWith K (Kept 7) (A ∷ []) five) ∷ []))
+  pub other-payload : ¬ Contents (asking (install H1 plain) 0 ∷ []) (ledgerOf (lent H1 (rightWith K (Kept 7) [] (hex "BC")) ∷ []))
+  pub other-count : ¬ Contents (asking (install H1 plain) 0 ∷ []) (ledgerOf (gone (rightWith K (Kept 8) [] five) ∷ []))
+  pub other-bit : ¬ Contents (asking (install H1 (rightWith K (Kept 0) [] five)) 0 ∷ []) (ledgerOf (forUse H1 (rightWith K NoneKept [] five) ∷ []))
   -- kinds 4 and 3 send a key
   pub by-rek : KeyOut after7 (calling (hex "24 80 00 14" ++ H1 ++ H2)) H1 H2
   pub by-retrieval : KeyOut hashed2 (calling (hex "23 80 00 14" ++ H3 ++ H4)) H3 H4
@@ -68,20 +69,23 @@ pub record Hold : Type 0 where
   pub by-info : ¬ KeyOut after7 (calling (hex "29 80 00 0A" ++ H1)) H1 H2
   -- returns that succeeded, under H1 to H4
   pub returns : map (λ k. returned k exchanged) (H1 ∷ H2 ∷ H3 ∷ H4 ∷ []) ≡ false ∷ true ∷ true ∷ false ∷ []
-  pub refused-return : returned H2 (asking (enable H2 9) 4 ∷ []) ≡ false
+  pub refused-return : returned H2 (asking (enable H2 (Kept 9)) 4 ∷ []) ≡ false
   -- the installations that succeeded, and the count that the first of them, and one lent under H3, has at the end
   pub sent : map (λ p. p .right) (installations exchanged) ≡ plain ∷ plain ∷ []
   pub named : map (λ p. p .handle) (installations exchanged) ≡ H1 ∷ H1 ∷ []
   pub after-each : map (λ p. p .later) (installations exchanged) ≡ (asking (rek H1 H2) 0 ∷ later) ∷ drop 1 later ∷ []
-  pub last-counts : lastCount H1 false 7 (asking (rek H1 H2) 0 ∷ later) ∷ lastCount H1 false 7 (drop 1 later) ∷ lastCount H3 true 7 later ∷ lastCount H2 false 7 [] ∷ []
-      ≡ 2 ∷ 7 ∷ 2 ∷ 7 ∷ []
+  pub last-counts : lastCount H1 false (Kept 7) (asking (rek H1 H2) 0 ∷ later) ∷ lastCount H1 false (Kept 7) (drop 1 later) ∷ lastCount H3 true (Kept 7) later ∷ lastCount H2 false (Kept 7) [] ∷ []
+      ≡ Kept 2 ∷ Kept 7 ∷ Kept 2 ∷ Kept 7 ∷ []
   -- a return that is sent again gives no count; nor does one under the handle of a right that is gone
-  pub sent-again : lastCount H2 true 7 (take 4 later) ≡ 3
-  pub no-longer : lastCount H1 true 7 (asking (remove H1) 0 ∷ asking (enable H1 3) 0 ∷ []) ≡ 7
+  pub sent-again : lastCount H2 true (Kept 7) (take 4 later) ≡ Kept 3
+  pub no-longer : lastCount H1 true (Kept 7) (asking (remove H1) 0 ∷ asking (enable H1 (Kept 3)) 0 ∷ []) ≡ Kept 7
+  -- used up, a count is kept still; returned without one, none is
+  pub used-up : lastCount H2 true (Kept 1) (asking (enable H2 (Kept 0)) 0 ∷ []) ≡ Kept 0
+  pub given-up : lastCount H2 true (Kept 1) (asking (enable H2 NoneKept) 0 ∷ []) ≡ NoneKept
   pub holds : map held (forUse H1 plain ∷ lent H1 other ∷ gone plain ∷ []) ≡ plain ∷ other ∷ plain ∷ []
   -- an enabled and a disabled record with other keys, beside an empty slot and a reservation
   pub alike : AlikeButKeys (after7 ++ blank ++ after9 ++ waiting) (rekeyed L after7 ++ blank ++ rekeyed (replicate 16 0x00) after9 ++ waiting)
   -- but none in which another byte differs, or the number of slots
   pub other-handle : ¬ AlikeButKeys after7 (changed 10 0x02 after7)
-  pub other-number : ¬ AlikeButKeys after7 (changed 27 0x01 after7)
+  pub other-number : ¬ AlikeButKeys counted7 (changed 27 0x01 counted7)
   pub other-slots : ¬ AlikeButKeys after7 (after7 ++ blank)

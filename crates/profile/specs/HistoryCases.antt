@@ -5,27 +5,27 @@ use mathlib.Core.List.{List, [], _∷_, _++_, map}
 use mathlib.Core.Option.{none, some}
 use lib.ListN.{take, replicate}
 use Rattle.profile.specs.Bytes.{Bytes}
-use Rattle.profile.specs.Slot.{Right, rightWith, reserved, enabled, disabled, empty, taken}
+use Rattle.profile.specs.Slot.{Kept, Right, rightWith, reserved, enabled, disabled, empty, taken}
 use Rattle.profile.specs.Frame.{parameter}
 use Rattle.profile.specs.Request.{Request, setup, install, retrieve, rek, enable, remove, cancel, list, info, asks, refused, noFrame}
 use Rattle.profile.specs.Agent.{Call}
 use Rattle.profile.specs.History.{open-setup, forUse, lent, gone, Ledger, blankLedger, rightNumber, Exchange, told, history}
 use Rattle.profile.specs.Run.{exchange, exchanges, blankTable, tableAfterAll, ledgerThen, underSlots, underLedger, Agrees}
 use Rattle.profile.specs.CaseBytes.{hex, H1, H2, H3, H4, H1-last, K, L, A, five}
-use Rattle.profile.specs.CaseTables.{blank, after9}
+use Rattle.profile.specs.CaseTables.{blank, lent7}
 
--- a right, the same with the count 3, and another
+-- a right with a kept count of 7, the same with 3, and another
 abbrev pub plain : Right
-plain = rightWith K 7 [] five
+plain = rightWith K (Kept 7) [] five
 
 abbrev pub counted3 : Right
-counted3 = rightWith K 3 [] five
+counted3 = rightWith K (Kept 3) [] five
 
 abbrev pub other : Right
-other = rightWith L 258 (A ∷ []) (hex "BC")
+other = rightWith L (Kept 258) (A ∷ []) (hex "BC")
 
 abbrev pub other3 : Right
-other3 = rightWith L 3 (A ∷ []) (hex "BC")
+other3 = rightWith L (Kept 3) (A ∷ []) (hex "BC")
 
 -- ---- one exchange after another state: two setups; a right for use under H1, one lent under H2, one gone
 abbrev pub before : Ledger
@@ -51,9 +51,9 @@ tellings =
     ∷ record { request = rek H1-last H1; status = 0; after = before }
     -- the right under the handle, lent or for use
     ∷ record { request = retrieve H2 H1-last; status = 0; after = record { setups = open-setup H3 5 ∷ open-setup H4 9 ∷ []; rights = forUse H1 plain ∷ lent H1-last other ∷ gone plain ∷ [] } }
-    ∷ record { request = enable H2 3; status = 0; after = record { setups = open-setup H3 5 ∷ open-setup H4 9 ∷ []; rights = forUse H1 plain ∷ forUse H2 other3 ∷ gone plain ∷ [] } }
-    ∷ record { request = enable H1 3; status = 0; after = before }
-    ∷ record { request = enable H3 3; status = 0; after = before }
+    ∷ record { request = enable H2 (Kept 3); status = 0; after = record { setups = open-setup H3 5 ∷ open-setup H4 9 ∷ []; rights = forUse H1 plain ∷ forUse H2 other3 ∷ gone plain ∷ [] } }
+    ∷ record { request = enable H1 (Kept 3); status = 0; after = before }
+    ∷ record { request = enable H3 (Kept 3); status = 0; after = before }
     ∷ record { request = remove H1; status = 0; after = record { setups = open-setup H3 5 ∷ open-setup H4 9 ∷ []; rights = gone plain ∷ lent H2 other ∷ gone plain ∷ [] } }
     ∷ record { request = remove H2; status = 0; after = record { setups = open-setup H3 5 ∷ open-setup H4 9 ∷ []; rights = forUse H1 plain ∷ gone other ∷ gone plain ∷ [] } }
     ∷ record { request = remove H3; status = 0; after = before }
@@ -67,7 +67,7 @@ tellings =
     ∷ record { request = install H3 plain; status = 1; after = before }
     ∷ record { request = retrieve H1 H2; status = 5; after = before }
     ∷ record { request = rek H2 H1-last; status = 6; after = before }
-    ∷ record { request = enable H2 3; status = 4; after = before }
+    ∷ record { request = enable H2 (Kept 3); status = 4; after = before }
     ∷ record { request = remove H1; status = 8; after = before }
     ∷ record { request = cancel H3; status = 255; after = before }
     ∷ []
@@ -79,10 +79,10 @@ telling c = told before (record { request = c .request; status = c .status })
 abbrev pub frames : List Bytes
 frames =
     (hex "21 80 00 0C" ++ H1 ++ hex "00 05")
-    ∷ (hex "22 80 00 22" ++ H1 ++ K ++ hex "00 07 00" ++ five)
+    ∷ (hex "22 C0 00 22" ++ H1 ++ K ++ hex "00 07 00" ++ five)
     ∷ (hex "24 80 00 14" ++ H1 ++ H2)
     ∷ (hex "21 80 00 0C" ++ H1 ++ hex "00 05")
-    ∷ (hex "22 80 00 22" ++ H1 ++ K ++ hex "00 07 00" ++ five)
+    ∷ (hex "22 C0 00 22" ++ H1 ++ K ++ hex "00 07 00" ++ five)
     ∷ (hex "24 80 00 14" ++ H2 ++ H3)
     ∷ hex "26 80 00"
     ∷ []
@@ -104,8 +104,8 @@ run =
 -- how it might go on: the return, twice, a lending by kind 3, a removal, a setup cancelled and one that stays
 abbrev pub further : List Exchange
 further =
-    asking (enable H2 3) 0
-    ∷ asking (enable H2 4) 0
+    asking (enable H2 (Kept 3)) 0
+    ∷ asking (enable H2 (Kept 4)) 0
     ∷ asking (retrieve H1 H3) 0
     ∷ asking (remove H3) 0
     ∷ asking (setup H4 5) 0
@@ -127,7 +127,7 @@ pub record Hold : Type 0 where
   pub each : map telling tellings ≡ map (λ c. c .after) tellings
   -- the run: its exchanges; the table after the first three; the ledger
   pub ran : exchanges (blankTable 2) (calls 4279 frames) ≡ run
-  pub left : tableAfterAll 1 (calls 4279 (take 3 frames)) ≡ after9
+  pub left : tableAfterAll 1 (calls 4279 (take 3 frames)) ≡ lent7
   pub tells : history blankLedger run ≡ halfway
   pub goes-on : history blankLedger (run ++ further) ≡ ledger
   pub then-told : ledgerThen 1 (calls 4279 ((hex "21 80 00 0C" ++ H1 ++ hex "00 05") ∷ [])) ≡ record { setups = open-setup H1 5 ∷ []; rights = [] }

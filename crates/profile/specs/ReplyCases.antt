@@ -6,7 +6,7 @@ use mathlib.Core.List.{List, [], _∷_, _++_, map}
 use mathlib.Core.Bool.{true, false}
 use lib.ListN.{take, replicate}
 use Rattle.profile.specs.Bytes.{Bytes, joined}
-use Rattle.profile.specs.Slot.{rightWith}
+use Rattle.profile.specs.Slot.{NoneKept, Kept, rightWith}
 use Rattle.profile.specs.Frame.{integrity, parameter, unsupported, notFound, duplicate, unexpected, noSpace}
 use Rattle.profile.specs.Agent.{nothing, theRight, theKey, handles, counted, deny, done, Answer, replyFrame}
 use Rattle.profile.specs.Device.{Reply, malformed, failed, gave, readReply, sent}
@@ -71,6 +71,21 @@ heads =
     ∷ bad (hex "21 09 00 00")
     ∷ bad (hex "21 10 00 00")
     ∷ bad (hex "21 FF 00 00")
+    -- the bit of a count beside a status, and in the success of a kind that gives none, known or not
+    ∷ bad (hex "21 81 00 00")
+    ∷ bad (hex "23 84 00 00")
+    ∷ bad (hex "29 86 00 00")
+    ∷ bad (hex "3F 82 00 00")
+    ∷ bad (hex "29 88 00 00")
+    ∷ bad (hex "21 80 00 00")
+    ∷ bad (hex "22 80 00 00")
+    ∷ bad (hex "25 80 00 00")
+    ∷ bad (hex "26 80 00 00")
+    ∷ bad (hex "27 80 00 00")
+    ∷ bad (hex "24 80 00 10" ++ key)
+    ∷ bad (hex "28 80 00 01 00")
+    ∷ bad (hex "20 80 00 00")
+    ∷ bad (hex "2A 80 00 00")
     -- a body is refused where the status is not 0
     ∷ bad (hex "21 05 00 01 00")
     ∷ bad (hex "24 04 00 10" ++ key)
@@ -103,12 +118,16 @@ shapes =
     ∷ bad (hex "24 00 00 11" ++ key ++ hex "00")
     ∷ bad (hex "24 00 00 00")
     -- 9: a count, and a payload of 1 to 4,096 bytes
-    ∷ (hex "29 00 00 03 31 32 51", gave 9 (counted 0x3132 (hex "51")))
-    ∷ (hex "29 00 00 04 00 07 51 52", gave 9 (counted 7 (hex "51 52")))
-    ∷ (sized "29 00" (hex "31 32" ++ replicate 4096 0x5A), gave 9 (counted 0x3132 (replicate 4096 0x5A)))
-    ∷ bad (sized "29 00" (hex "31 32" ++ replicate 4097 0x5A))
-    ∷ bad (hex "29 00 00 02 31 32")
-    ∷ bad (hex "29 00 00 01 31")
+    ∷ (hex "29 80 00 03 31 32 51", gave 9 (counted (Kept 0x3132) (hex "51")))
+    ∷ (hex "29 80 00 04 00 07 51 52", gave 9 (counted (Kept 7) (hex "51 52")))
+    ∷ (hex "29 80 00 03 00 00 51", gave 9 (counted (Kept 0) (hex "51")))
+    ∷ (hex "29 00 00 03 00 00 51", gave 9 (counted NoneKept (hex "51")))
+    ∷ bad (hex "29 00 00 03 00 01 51")
+    ∷ bad (hex "29 00 00 03 01 00 51")
+    ∷ (sized "29 80" (hex "31 32" ++ replicate 4096 0x5A), gave 9 (counted (Kept 0x3132) (replicate 4096 0x5A)))
+    ∷ bad (sized "29 80" (hex "31 32" ++ replicate 4097 0x5A))
+    ∷ bad (hex "29 80 00 02 31 32")
+    ∷ bad (hex "29 80 00 01 31")
     ∷ bad (hex "29 00 00 00")
     -- 8: zero bits, and 0 to 15 handles, the last one complete
     ∷ (hex "28 00 00 01 00", gave 8 (handles false []))
@@ -128,15 +147,15 @@ shapes =
 
 -- 3: at most 8 hashes, the low half of the hash byte 0, a payload of 1 to 4,096 bytes; key, count and hash byte first
 abbrev pub right : String → Bytes → Bytes
-right middle rest = sized "23 00" (key ++ hex middle ++ rest)
+right middle rest = sized "23 80" (key ++ hex middle ++ rest)
 
 abbrev pub gives-right : List Bytes → Bytes → Reply
-gives-right hs payload = gave 3 (theRight (rightWith key 0x3132 hs payload))
+gives-right hs payload = gave 3 (theRight (rightWith key (Kept 0x3132) hs payload))
 
 unfoldable pub rights : List Case
 rights =
-    (hex "23 00 00 14" ++ key ++ hex "31 32 00 51", gives-right [] (hex "51"))
-    ∷ (hex "23 00 00 29" ++ key ++ hex "31 32 10" ++ p ++ hex "51 52", gives-right (p ∷ []) (hex "51 52"))
+    (hex "23 80 00 14" ++ key ++ hex "31 32 00 51", gives-right [] (hex "51"))
+    ∷ (hex "23 80 00 29" ++ key ++ hex "31 32 10" ++ p ++ hex "51 52", gives-right (p ∷ []) (hex "51 52"))
     ∷ (right "31 32 20" (p ++ q ++ hex "51"), gives-right (p ∷ q ∷ []) (hex "51"))
     ∷ (right "31 32 80" (eight ++ hex "51"), gives-right eightHashes (hex "51"))
     ∷ bad (right "31 32 90" (eight ++ p ++ hex "51"))
@@ -151,8 +170,13 @@ rights =
     ∷ bad (right "31 32 00" (replicate 4097 0x5A))
     ∷ (right "31 32 80" (eight ++ replicate 4096 0x5A), gives-right eightHashes (replicate 4096 0x5A))
     ∷ bad (right "31 32 80" (eight ++ replicate 4097 0x5A))
-    ∷ bad (hex "23 00 00 12" ++ key ++ hex "31 32")
+    ∷ bad (hex "23 80 00 12" ++ key ++ hex "31 32")
     ∷ bad (hex "23 00 00 00")
+    -- no count kept, and a kept count of 0; a count that is not 0 without its bit
+    ∷ (hex "23 00 00 14" ++ key ++ hex "00 00 00 51", gave 3 (theRight (rightWith key NoneKept [] (hex "51"))))
+    ∷ (hex "23 80 00 14" ++ key ++ hex "00 00 00 51", gave 3 (theRight (rightWith key (Kept 0) [] (hex "51"))))
+    ∷ bad (hex "23 00 00 14" ++ key ++ hex "00 01 00 51")
+    ∷ bad (hex "23 00 00 14" ++ key ++ hex "01 00 00 51")
     ∷ []
 
 -- ---- PROFILE 6.4: answers: their frames, and what the reader has of them
@@ -166,11 +190,15 @@ answers =
     ∷ (5, deny unexpected, hex "25 06 00 00")
     ∷ (1, deny noSpace, hex "21 07 00 00")
     ∷ (7, done nothing [], hex "27 00 00 00")
-    ∷ (3, done (theRight (rightWith key 0x3132 (p ∷ q ∷ []) (hex "51 52"))) [], hex "23 00 00 3D" ++ key ++ hex "31 32 20" ++ p ++ q ++ hex "51 52")
+    ∷ (3, done (theRight (rightWith key (Kept 0x3132) (p ∷ q ∷ []) (hex "51 52"))) [], hex "23 80 00 3D" ++ key ++ hex "31 32 20" ++ p ++ q ++ hex "51 52")
+    ∷ (3, done (theRight (rightWith key (Kept 0) [] (hex "51"))) [], hex "23 80 00 14" ++ key ++ hex "00 00 00 51")
+    ∷ (3, done (theRight (rightWith key NoneKept [] (hex "51"))) [], hex "23 00 00 14" ++ key ++ hex "00 00 00 51")
     ∷ (4, done (theKey key) [], hex "24 00 00 10" ++ key)
     ∷ (8, done (handles true (h ∷ n ∷ [])) [], hex "28 00 00 15 80" ++ h ++ n)
     ∷ (8, done (handles false (h ∷ [])) [], hex "28 00 00 0B 00" ++ h)
-    ∷ (9, done (counted 0x3132 (hex "51 52")) [], hex "29 00 00 04 31 32 51 52")
+    ∷ (9, done (counted (Kept 0x3132) (hex "51 52")) [], hex "29 80 00 04 31 32 51 52")
+    ∷ (9, done (counted (Kept 0) (hex "51")) [], hex "29 80 00 03 00 00 51")
+    ∷ (9, done (counted NoneKept (hex "51")) [], hex "29 00 00 03 00 00 51")
     ∷ []
 
 -- ---- the whole table: it is what the reader says; and answers are sent as these frames, and read as what was sent

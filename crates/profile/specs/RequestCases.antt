@@ -6,10 +6,10 @@ use Prim.Native.Nat.{ℕ}
 use mathlib.Core.Bool.{Bool, true, false}
 use lib.ListN.{take, replicate}
 use Rattle.profile.specs.Bytes.{Bytes, joined}
-use Rattle.profile.specs.Slot.{rightWith}
+use Rattle.profile.specs.Slot.{NoneKept, Kept, rightWith}
 use Rattle.profile.specs.Frame.{Kind, Setup, Install, Retrieve, Rek, Enable, Remove, Cancel, List', Info, versionHolds, kindNumber, hashCountAt18, Refusal, integrity, parameter, unsupported}
 use Rattle.profile.specs.Request.{Request, setup, install, retrieve, rek, enable, remove, cancel, list, info}
-use Rattle.profile.specs.Request.{Read, asks, refused, noFrame, verdict, zeroBits, bodyFits, readRequest, writeRequest}
+use Rattle.profile.specs.Request.{Read, asks, refused, noFrame, verdict, keptAsked, zeroBits, bodyFits, readRequest, writeRequest}
 use Rattle.profile.specs.CaseBytes.{hex, sized, h, n, key, p, q, eight, eightHashes}
 
 -- a frame, and what it is read as
@@ -30,12 +30,15 @@ right head middle rest = sized head (h ++ key ++ hex middle ++ rest)
 unfoldable pub requests : List Case
 requests =
     reads (hex "21 80 00 0C" ++ h ++ hex "31 32") (setup h 0x3132)
-    ∷ reads (hex "22 80 00 1E" ++ h ++ key ++ hex "31 32 00 51") (install h (rightWith key 0x3132 [] (hex "51")))
-    ∷ reads (hex "22 80 00 33" ++ h ++ key ++ hex "31 32 10" ++ p ++ hex "51 52") (install h (rightWith key 0x3132 (p ∷ []) (hex "51 52")))
-    ∷ reads (hex "22 80 00 47" ++ h ++ key ++ hex "00 00 20" ++ p ++ q ++ hex "00 52") (install h (rightWith key 0 (p ∷ q ∷ []) (hex "00 52")))
+    ∷ reads (hex "22 C0 00 1E" ++ h ++ key ++ hex "31 32 00 51") (install h (rightWith key (Kept 0x3132) [] (hex "51")))
+    ∷ reads (hex "22 C0 00 33" ++ h ++ key ++ hex "31 32 10" ++ p ++ hex "51 52") (install h (rightWith key (Kept 0x3132) (p ∷ []) (hex "51 52")))
+    ∷ reads (hex "22 80 00 47" ++ h ++ key ++ hex "00 00 20" ++ p ++ q ++ hex "00 52") (install h (rightWith key NoneKept (p ∷ q ∷ []) (hex "00 52")))
+    ∷ reads (hex "22 C0 00 1E" ++ h ++ key ++ hex "00 00 00 51") (install h (rightWith key (Kept 0) [] (hex "51")))
     ∷ reads (hex "23 80 00 14" ++ h ++ n) (retrieve h n)
     ∷ reads (hex "24 80 00 14" ++ h ++ n) (rek h n)
-    ∷ reads (hex "25 80 00 0C" ++ h ++ hex "31 32") (enable h 0x3132)
+    ∷ reads (hex "25 C0 00 0C" ++ h ++ hex "31 32") (enable h (Kept 0x3132))
+    ∷ reads (hex "25 C0 00 0C" ++ h ++ hex "00 00") (enable h (Kept 0))
+    ∷ reads (hex "25 80 00 0C" ++ h ++ hex "00 00") (enable h NoneKept)
     ∷ reads (hex "26 80 00 0A" ++ h) (remove h)
     ∷ reads (hex "27 80 00 0A" ++ h) (cancel h)
     ∷ reads (hex "28 80 00 03 31 32 00") (list 0x3132 [])
@@ -92,6 +95,26 @@ heads =
     ∷ refuses (hex "4A 80 00 00") parameter
     ∷ refuses (hex "2A 81 00 00") parameter
     ∷ refuses (hex "20 C0 00 00") parameter
+    -- the bit of a count in each kind that sends none, known or not; and before the verdict, and before an unknown kind
+    ∷ refuses (hex "21 C0 00 0C" ++ h ++ hex "31 32") parameter
+    ∷ refuses (hex "23 C0 00 14" ++ h ++ n) parameter
+    ∷ refuses (hex "24 C0 00 14" ++ h ++ n) parameter
+    ∷ refuses (hex "27 C0 00 0A" ++ h) parameter
+    ∷ refuses (hex "28 C0 00 03 00 00 00") parameter
+    ∷ refuses (hex "29 C0 00 0A" ++ h) parameter
+    ∷ refuses (hex "21 40 00 0C" ++ h ++ hex "31 32") parameter
+    ∷ refuses (hex "2A C0 00 00") parameter
+    ∷ refuses (hex "3F 40 00 00") parameter
+    -- each of the six zero bits of kinds 2 and 5
+    ∷ refuses (hex "22 81 00 1E" ++ h ++ key ++ hex "00 00 00 51") parameter
+    ∷ refuses (hex "22 E0 00 1E" ++ h ++ key ++ hex "00 00 00 51") parameter
+    ∷ refuses (hex "25 C1 00 0C" ++ h ++ hex "31 32") parameter
+    ∷ refuses (hex "25 82 00 0C" ++ h ++ hex "00 00") parameter
+    ∷ refuses (hex "25 C4 00 0C" ++ h ++ hex "31 32") parameter
+    ∷ refuses (hex "25 88 00 0C" ++ h ++ hex "00 00") parameter
+    ∷ refuses (hex "25 D0 00 0C" ++ h ++ hex "31 32") parameter
+    ∷ refuses (hex "25 A0 00 0C" ++ h ++ hex "00 00") parameter
+    ∷ refuses (hex "25 20 00 0C" ++ h ++ hex "00 00") parameter
     ∷ []
 
 -- ---- PROFILE 4.3: an unknown kind, whatever the body, and whatever the verdict
@@ -118,6 +141,7 @@ lengths =
     ∷ refuses (hex "22 80 00 1D" ++ h ++ key ++ hex "31 32 00") parameter
     ∷ refuses (hex "22 00 00 1D" ++ h ++ key ++ hex "31 32 00") parameter
     ∷ refuses (hex "22 80 00 1C" ++ h ++ key ++ hex "31 32") parameter
+    ∷ refuses (hex "22 40 00 1D" ++ h ++ key ++ hex "31 32 00") parameter
     ∷ refuses (hex "23 80 00 13" ++ h ++ take 9 n) parameter
     ∷ refuses (hex "23 80 00 15" ++ h ++ n ++ hex "00") parameter
     ∷ refuses (hex "23 00 00 15" ++ h ++ n ++ hex "00") parameter
@@ -139,7 +163,7 @@ lengths =
     ∷ refuses (hex "29 80 00 0B" ++ h ++ hex "00") parameter
     ∷ []
 
--- ---- PROFILE 4.3: verdict 0 in kinds 1 to 7, before the fields of kind 2; kinds 8 and 9 are read
+-- ---- PROFILE 4.3: verdict 0 in kinds 1 to 7, before the fields of kinds 2 and 5; kinds 8 and 9 are read
 unfoldable pub verdicts : List Case
 verdicts =
     refuses (hex "21 00 00 0C" ++ h ++ hex "00 05") integrity
@@ -149,7 +173,9 @@ verdicts =
     ∷ refuses (right "22 00" "31 32 00" (replicate 4097 0x5A)) integrity
     ∷ refuses (hex "23 00 00 14" ++ h ++ n) integrity
     ∷ refuses (hex "24 00 00 14" ++ h ++ n) integrity
+    ∷ refuses (hex "22 40 00 1E" ++ h ++ key ++ hex "31 32 00 51") integrity
     ∷ refuses (hex "25 00 00 0C" ++ h ++ hex "31 32") integrity
+    ∷ refuses (hex "25 40 00 0C" ++ h ++ hex "31 32") integrity
     ∷ refuses (hex "26 00 00 0A" ++ h) integrity
     ∷ refuses (hex "27 00 00 0A" ++ h) integrity
     ∷ reads (hex "28 00 00 17 31 32 01" ++ p) (list 0x3132 (p ∷ []))
@@ -157,30 +183,39 @@ verdicts =
     ∷ reads (hex "29 00 00 0A" ++ h) (info h)
     ∷ []
 
--- ---- PROFILE 5.2 and 5.8: the field tests
+-- ---- PROFILE 5.2, 5.5 and 5.8: the field tests
 unfoldable pub fieldTests : List Case
 fieldTests =
     -- 8 hashes, and more
-    reads (right "22 80" "31 32 80" (eight ++ hex "51")) (install h (rightWith key 0x3132 eightHashes (hex "51")))
-    ∷ refuses (right "22 80" "31 32 90" (eight ++ p ++ hex "51")) parameter
-    ∷ refuses (right "22 80" "31 32 F0" (eight ++ eight ++ hex "51")) parameter
+    reads (right "22 C0" "31 32 80" (eight ++ hex "51")) (install h (rightWith key (Kept 0x3132) eightHashes (hex "51")))
+    ∷ refuses (right "22 C0" "31 32 90" (eight ++ p ++ hex "51")) parameter
+    ∷ refuses (right "22 C0" "31 32 F0" (eight ++ eight ++ hex "51")) parameter
     -- the low half of the hash byte: each bit
-    ∷ refuses (right "22 80" "31 32 01" (hex "51 52")) parameter
-    ∷ refuses (right "22 80" "31 32 02" (hex "51 52")) parameter
-    ∷ refuses (right "22 80" "31 32 04" (hex "51 52")) parameter
-    ∷ refuses (right "22 80" "31 32 08" (hex "51 52")) parameter
-    ∷ refuses (right "22 80" "31 32 18" (p ++ hex "51 52")) parameter
+    ∷ refuses (right "22 C0" "31 32 01" (hex "51 52")) parameter
+    ∷ refuses (right "22 C0" "31 32 02" (hex "51 52")) parameter
+    ∷ refuses (right "22 C0" "31 32 04" (hex "51 52")) parameter
+    ∷ refuses (right "22 C0" "31 32 08" (hex "51 52")) parameter
+    ∷ refuses (right "22 C0" "31 32 18" (p ++ hex "51 52")) parameter
     -- the payload: none, one byte, and hashes that overrun the body
-    ∷ refuses (right "22 80" "31 32 10" p) parameter
-    ∷ reads (right "22 80" "31 32 10" (p ++ hex "51")) (install h (rightWith key 0x3132 (p ∷ []) (hex "51")))
-    ∷ refuses (right "22 80" "31 32 20" (p ++ take 19 q)) parameter
-    ∷ refuses (right "22 80" "31 32 80" eight) parameter
-    ∷ refuses (right "22 80" "31 32 10" (hex "51")) parameter
+    ∷ refuses (right "22 C0" "31 32 10" p) parameter
+    ∷ reads (right "22 C0" "31 32 10" (p ++ hex "51")) (install h (rightWith key (Kept 0x3132) (p ∷ []) (hex "51")))
+    ∷ refuses (right "22 C0" "31 32 20" (p ++ take 19 q)) parameter
+    ∷ refuses (right "22 C0" "31 32 80" eight) parameter
+    ∷ refuses (right "22 C0" "31 32 10" (hex "51")) parameter
     -- 4,096 and 4,097 bytes
-    ∷ reads (right "22 80" "31 32 00" (replicate 4096 0x5A)) (install h (rightWith key 0x3132 [] (replicate 4096 0x5A)))
-    ∷ refuses (right "22 80" "31 32 00" (replicate 4097 0x5A)) parameter
-    ∷ reads (right "22 80" "31 32 80" (eight ++ replicate 4096 0x5A)) (install h (rightWith key 0x3132 eightHashes (replicate 4096 0x5A)))
-    ∷ refuses (right "22 80" "31 32 80" (eight ++ replicate 4097 0x5A)) parameter
+    ∷ reads (right "22 C0" "31 32 00" (replicate 4096 0x5A)) (install h (rightWith key (Kept 0x3132) [] (replicate 4096 0x5A)))
+    ∷ refuses (right "22 C0" "31 32 00" (replicate 4097 0x5A)) parameter
+    ∷ reads (right "22 C0" "31 32 80" (eight ++ replicate 4096 0x5A)) (install h (rightWith key (Kept 0x3132) eightHashes (replicate 4096 0x5A)))
+    ∷ refuses (right "22 C0" "31 32 80" (eight ++ replicate 4097 0x5A)) parameter
+    -- a count that is not 0 without its bit, in kinds 2 and 5; with the number 0 none is kept, and with the bit every number is one
+    ∷ refuses (right "22 80" "00 01 10" (p ++ hex "51")) parameter
+    ∷ refuses (right "22 80" "01 00 00" (hex "51")) parameter
+    ∷ reads (right "22 80" "00 00 10" (p ++ hex "51")) (install h (rightWith key NoneKept (p ∷ []) (hex "51")))
+    ∷ reads (right "22 C0" "FF FF 10" (p ++ hex "51")) (install h (rightWith key (Kept 65535) (p ∷ []) (hex "51")))
+    ∷ refuses (hex "25 80 00 0C" ++ h ++ hex "00 01") parameter
+    ∷ refuses (hex "25 80 00 0C" ++ h ++ hex "01 00") parameter
+    ∷ refuses (hex "25 80 00 0C" ++ h ++ hex "FF FF") parameter
+    ∷ reads (hex "25 C0 00 0C" ++ h ++ hex "FF FF") (enable h (Kept 65535))
     -- kind 8: 8 hashes, and more; a body that does not end with its last hash
     ∷ reads (sized "28 80" (hex "01 00 08" ++ eight)) (list 256 eightHashes)
     ∷ refuses (sized "28 80" (hex "01 00 09" ++ eight ++ p)) parameter
@@ -217,9 +252,12 @@ bodies =
 
 pub record Hold : Type 0 where
   pub lengths-fit : map (λ k. map (bodyFits (k .0)) (k .1)) bodies ≡ map (λ k. k .2) bodies
-  -- PROFILE 3.1: the verdict bit, and the zero bits
+  -- PROFILE 3.1: the verdict bit, the bit of a count, and the zero bits, of which kinds 2 and 5 have one less
   pub verdict-bit : map verdict (hex "21 00" ∷ hex "21 7F" ∷ hex "21 80" ∷ hex "21 FF" ∷ []) ≡ 0 ∷ 0 ∷ 1 ∷ 1 ∷ []
+  pub kept-bit : map keptAsked (hex "22 80" ∷ hex "22 C0" ∷ hex "22 40" ∷ hex "25 BF" ∷ hex "25 FF" ∷ []) ≡ 0 ∷ 1 ∷ 1 ∷ 0 ∷ 1 ∷ []
   pub zero-bits : map zeroBits (hex "21 00" ∷ hex "21 80" ∷ hex "21 81" ∷ hex "21 40" ∷ []) ≡ true ∷ true ∷ false ∷ false ∷ []
+  pub zero-bits-6 : map zeroBits (hex "22 40" ∷ hex "22 C0" ∷ hex "22 E0" ∷ hex "25 80" ∷ hex "25 40" ∷ hex "25 41" ∷ hex "26 40" ∷ hex "20 40" ∷ hex "2A C0" ∷ [])
+      ≡ true ∷ true ∷ false ∷ true ∷ true ∷ false ∷ false ∷ false ∷ false ∷ []
   -- PROFILE 3: three bits of version, five of kind
   pub versions : map versionHolds (hex "00" ∷ hex "1F" ∷ hex "20" ∷ hex "3F" ∷ hex "40" ∷ hex "61" ∷ []) ≡ false ∷ false ∷ true ∷ true ∷ false ∷ false ∷ []
   pub kind-bits : map kindNumber (hex "00" ∷ hex "1F" ∷ hex "E0" ∷ hex "30" ∷ hex "2A" ∷ []) ≡ 0 ∷ 31 ∷ 0 ∷ 16 ∷ 10 ∷ []

@@ -2,13 +2,13 @@
 use mathlib.Core.List.{List, [], _∷_}
 use lib.ListN.{replicate}
 use Rattle.profile.specs.Bytes.{Bytes}
-use Rattle.profile.specs.Slot.{Right, rightWith, reserved, enabled, disabled, empty, taken, RightFits, SlotFits, TableFits}
+use Rattle.profile.specs.Slot.{Kept, Right, rightWith, reserved, enabled, disabled, empty, taken, RightFits, SlotFits, TableFits}
 use Rattle.profile.specs.Request.{setup, install, retrieve, rek, enable, remove, cancel, list, info, RequestFits}
 use Rattle.profile.specs.CaseBytes.{hex, H1, H2, K, A, B}
 
 -- a right of these
 abbrev pub of : Bytes → List Bytes → Bytes → Right
-of key hashes payload = rightWith key 7 hashes payload
+of key hashes payload = rightWith key (Kept 7) hashes payload
 
 -- the least right, and the greatest
 abbrev pub least : Right
@@ -66,7 +66,7 @@ pub record Hold : Type 0 where
   pub install-fits : RequestFits (install H1 most)
   pub retrieve-fits : RequestFits (retrieve H1 H1)
   pub rek-fits : RequestFits (rek H1 H2)
-  pub enable-fits : RequestFits (enable H1 65535)
+  pub enable-fits : RequestFits (enable H1 (Kept 65535))
   pub remove-fits : RequestFits (remove H1)
   pub cancel-fits : RequestFits (cancel H1)
   pub list-fits : RequestFits (list 0 (most .hashes))
@@ -78,7 +78,7 @@ pub record Hold : Type 0 where
   pub retrieve-11 : ¬ RequestFits (retrieve H1 H11)
   pub rek-9 : ¬ RequestFits (rek H9 H2)
   pub rek-11 : ¬ RequestFits (rek H1 H11)
-  pub enable-9 : ¬ RequestFits (enable H9 3)
+  pub enable-9 : ¬ RequestFits (enable H9 (Kept 3))
   pub remove-9 : ¬ RequestFits (remove H9)
   pub cancel-11 : ¬ RequestFits (cancel H11)
   pub list-9 : ¬ RequestFits (list 0 nine)

@@ -5,10 +5,10 @@ use mathlib.Core.List.{List, [], _∷_, _++_, map}
 use mathlib.Core.Bool.{Bool, true, false}
 use lib.ListN.{replicate}
 use Rattle.profile.specs.Bytes.{Bytes}
-use Rattle.profile.specs.Slot.{Right, rightWith, recount, reserved, enabled, disabled, Slot, empty, taken, inUse, distinct}
-use Rattle.profile.specs.Table.{placeOf, hashCountOf, spareOf, unpack, pack, slotsOf, tableOf, wholeSlots, wellSlot, wellTable}
+use Rattle.profile.specs.Slot.{NoneKept, Kept, keptBit, countNumber, countHolds, countWith, Right, rightWith, recount, reserved, enabled, disabled, Slot, empty, taken, inUse, distinct}
+use Rattle.profile.specs.Table.{placeOf, hashCountOf, keptOf, spareOf, unpack, pack, slotsOf, tableOf, wholeSlots, wellSlot, wellTable}
 use Rattle.profile.specs.CaseBytes.{hex, changed, H0, H1, H2, H3, H1-last, H1-first, K, L, A, B, five}
-use Rattle.profile.specs.CaseTables.{blank, after1, after7, after9, after11, roomy, longest, hashed1, hashed2, lent2, hashed8, nameless, keyless, twins}
+use Rattle.profile.specs.CaseTables.{blank, after1, after7, after9, after11, counted7, lent7, usedUp, roomy, longest, hashed1, hashed2, lent2, hashed8, nameless, keyless, twins}
 
 -- ---- PROFILE 2.1: lengths, and whether they are those of 1 to 15 slots
 abbrev pub lengths : List (ℕ × Bool)
@@ -30,17 +30,18 @@ ill t = (t, false)
 
 unfoldable pub shapes : List (Bytes × Bool)
 shapes =
-    -- spare bits and byte 191
+    -- the spare bit and byte 191
     ill (changed 0 0x41 after1)
-    ∷ ill (changed 0 0x82 after7)
+    ∷ ill (changed 0 0x81 after7)
     ∷ ill (changed 0 0xC1 after9)
+    ∷ ill (changed 0 0x83 counted7)
     ∷ ill (changed 191 0x01 after1)
     ∷ ill (changed 191 0x80 after7)
     ∷ ill (changed 191 0x01 hashed8)
     -- at most 8 hashes
     ∷ well hashed8
-    ∷ ill (changed 0 0xA4 hashed8)
-    ∷ ill (changed 0 0xBC hashed8)
+    ∷ ill (changed 0 0xA6 hashed8)
+    ∷ ill (changed 0 0xBE hashed8)
     -- zeros after the last hash
     ∷ well hashed2
     ∷ well lent2
@@ -49,8 +50,8 @@ shapes =
     ∷ ill (changed 31 0x01 after1)
     ∷ ill (changed 51 0x01 hashed1)
     ∷ ill (changed 71 0x01 hashed2)
-    ∷ ill (changed 0 0x84 hashed2)
-    ∷ ill (changed 0 0x9C hashed8)
+    ∷ ill (changed 0 0x86 hashed2)
+    ∷ ill (changed 0 0x9E hashed8)
     -- zeros after the payload
     ∷ ill (changed 197 0x01 after7)
     ∷ ill (changed 4287 0x01 after7)
@@ -60,6 +61,7 @@ shapes =
     -- empty: all zeros
     ∷ well blank
     ∷ ill (changed 0 0x01 blank)
+    ∷ ill (changed 0 0x02 blank)
     ∷ ill (changed 0 0x04 blank)
     ∷ ill (changed 1 0x01 blank)
     ∷ ill (changed 26 0x01 blank)
@@ -71,6 +73,7 @@ shapes =
     ∷ well (changed 30 0x01 after1)
     ∷ well roomy
     ∷ ill (changed 30 0x01 roomy)
+    ∷ ill (changed 0 0x42 after1)
     ∷ ill (changed 0 0x44 after1)
     ∷ ill (changed 0 0x60 after1)
     ∷ ill (changed 11 0x01 after1)
@@ -85,9 +88,22 @@ shapes =
     ∷ well longest
     ∷ ill (changed 30 0x01 longest)
     ∷ ill (changed 192 0x00 (changed 30 0x00 lent2))
-    ∷ well (changed 0 0xC0 longest)
-    ∷ ill (changed 30 0x01 (changed 0 0xC0 longest))
-    -- PROFILE 2.6: a key of zeros and the count 0; the same hash twice
+    ∷ well (changed 0 0xC2 longest)
+    ∷ ill (changed 30 0x01 (changed 0 0xC2 longest))
+    -- the bit of a count: 1 with every number, also 0; 0 with the number 0 alone
+    ∷ well after7
+    ∷ well after9
+    ∷ well counted7
+    ∷ well lent7
+    ∷ well usedUp
+    ∷ well (changed 0 0xC2 after9)
+    ∷ well (changed 27 0xFF (changed 28 0xFF counted7))
+    ∷ ill (changed 0 0x80 counted7)
+    ∷ ill (changed 0 0xC0 lent7)
+    ∷ ill (changed 0 0xC8 lent2)
+    ∷ ill (changed 27 0x01 after7)
+    ∷ ill (changed 28 0x01 after9)
+    -- PROFILE 2.6: a key of zeros; the same hash twice
     ∷ well keyless
     ∷ well twins
     ∷ []
@@ -110,7 +126,7 @@ tables =
 
 -- ---- PROFILE 2.5: the same of slots told without their bytes: whatever their places, and wherever they stand
 abbrev pub plain : Right
-plain = rightWith K 7 (A ∷ []) five
+plain = rightWith K (Kept 7) (A ∷ []) five
 
 unfoldable pub handles : List (List Slot × Bool)
 handles =
@@ -134,12 +150,15 @@ slots =
     ∷ (after1, taken H1 (reserved 5))
     ∷ (roomy, taken H1 (reserved 4096))
     ∷ (nameless, taken H0 (reserved 5))
-    ∷ (after7, taken H1 (enabled (rightWith K 7 [] five)))
-    ∷ (after9, taken H2 (disabled (rightWith K 7 [] five)))
-    ∷ (hashed1, taken H3 (enabled (rightWith L 258 (A ∷ []) (hex "BC"))))
-    ∷ (hashed2, taken H3 (enabled (rightWith L 258 (A ∷ B ∷ []) (hex "BC"))))
-    ∷ (lent2, taken H3 (disabled (rightWith L 258 (A ∷ B ∷ []) (hex "BC"))))
-    ∷ (longest, taken H1 (enabled (rightWith K 7 [] (replicate 4096 0x5A))))
+    ∷ (after7, taken H1 (enabled (rightWith K NoneKept [] five)))
+    ∷ (after9, taken H2 (disabled (rightWith K NoneKept [] five)))
+    ∷ (counted7, taken H1 (enabled (rightWith K (Kept 7) [] five)))
+    ∷ (lent7, taken H2 (disabled (rightWith K (Kept 7) [] five)))
+    ∷ (usedUp, taken H2 (enabled (rightWith K (Kept 0) [] five)))
+    ∷ (hashed1, taken H3 (enabled (rightWith L (Kept 258) (A ∷ []) (hex "BC"))))
+    ∷ (hashed2, taken H3 (enabled (rightWith L (Kept 258) (A ∷ B ∷ []) (hex "BC"))))
+    ∷ (lent2, taken H3 (disabled (rightWith L (Kept 258) (A ∷ B ∷ []) (hex "BC"))))
+    ∷ (longest, taken H1 (enabled (rightWith K (Kept 7) [] (replicate 4096 0x5A))))
     ∷ []
 
 -- ---- these are what the definitions say
@@ -152,11 +171,17 @@ pub record Hold : Type 0 where
   pub in-use : map (λ h. inUse h (taken H1 (reserved 5) ∷ empty ∷ taken H2 (enabled plain) ∷ taken H3 (disabled plain) ∷ [])) (H1 ∷ H2 ∷ H3 ∷ H1-last ∷ H0 ∷ [])
       ≡ true ∷ true ∷ true ∷ false ∷ false ∷ []
   -- a right with another count
-  pub recounted : recount 3 plain ≡ rightWith K 3 (A ∷ []) five
-  -- PROFILE 2.2, byte 0: place, hash count, spare bits
+  pub recounted : recount (Kept 3) plain ≡ rightWith K (Kept 3) (A ∷ []) five
+  -- PROFILE 2.6: a bit and a number: whether they say a count, which count they say, and how a count is said
+  pub said : map (countHolds 0) (0 ∷ 1 ∷ 256 ∷ 65535 ∷ []) ++ map (countHolds 1) (0 ∷ 7 ∷ 65535 ∷ []) ≡ true ∷ false ∷ false ∷ false ∷ true ∷ true ∷ true ∷ []
+  pub says : countWith 0 0 ∷ countWith 1 0 ∷ countWith 1 7 ∷ [] ≡ NoneKept ∷ Kept 0 ∷ Kept 7 ∷ []
+  pub bits : map keptBit (NoneKept ∷ Kept 0 ∷ Kept 7 ∷ []) ≡ 0 ∷ 1 ∷ 1 ∷ []
+  pub numbers : map countNumber (NoneKept ∷ Kept 0 ∷ Kept 7 ∷ []) ≡ 0 ∷ 0 ∷ 7 ∷ []
+  -- PROFILE 2.2, byte 0: place, hash count, the bit of a count, the spare bit
   pub places : map (λ b. placeOf (b ∷ [])) (0x3F ∷ 0x40 ∷ 0x80 ∷ 0xC0 ∷ []) ≡ 0 ∷ 1 ∷ 2 ∷ 3 ∷ []
   pub counts : map (λ b. hashCountOf (b ∷ [])) (0xC3 ∷ 0x04 ∷ 0xE0 ∷ 0x3C ∷ []) ≡ 0 ∷ 1 ∷ 8 ∷ 15 ∷ []
-  pub spares : map (λ b. spareOf (b ∷ [])) (0xFC ∷ 0x01 ∷ 0x82 ∷ 0xFF ∷ []) ≡ 0 ∷ 1 ∷ 2 ∷ 3 ∷ []
+  pub kept : map (λ b. keptOf (b ∷ [])) (0xFC ∷ 0x01 ∷ 0x82 ∷ 0xFF ∷ []) ≡ 0 ∷ 0 ∷ 1 ∷ 1 ∷ []
+  pub spares : map (λ b. spareOf (b ∷ [])) (0xFC ∷ 0x01 ∷ 0x82 ∷ 0xFF ∷ []) ≡ 0 ∷ 1 ∷ 0 ∷ 1 ∷ []
   -- slots read, and written; tables of several slots too
   pub read : map (λ c. unpack (c .0)) slots ≡ map (λ c. c .1) slots
   pub written : map (λ c. pack (c .1)) slots ≡ map (λ c. c .0) slots

@@ -3,15 +3,16 @@
 use Prim.Native.Nat.{ℕ, _≤_}
 use mathlib.Core.Path.{_≡_}
 use mathlib.Core.Logic.{_↔_}
-use mathlib.Core.List.{List}
+use mathlib.Core.List.{List, map}
 use mathlib.Core.Option.{some}
 use mathlib.Core.Bool.{true, false}
 use lib.Dec.{T, eqb, ltb}
-use lib.ListN.{length, set}
-use Rattle.profile.specs.Bytes.{Bytes, Bytes256, over, all}
+use lib.ListN.{length, drop, set}
+use Rattle.profile.specs.Bytes.{Bytes, Bytes256, over, all, any}
 use Rattle.profile.specs.Sizes.{slotSize, replyRoom}
 use Rattle.profile.specs.Slot.{reserved, Slot, taken, distinct, SlotFits, TableFits}
-use Rattle.profile.specs.Table.{unpack, pack, wellSlot, slotsOf, tableOf, wholeSlots, wellTable}
+use Rattle.profile.specs.Table.{unpack, pack, wellSlot, slotBytes, slotsOf, tableOf, wholeSlots, wellTable}
+use Rattle.profile.specs.Turning.{unpackBefore, keepsCount, Turned, turn}
 use Rattle.profile.specs.Frame.{Kind, kindOf, isStatus, kindNumber, statusIn}
 use Rattle.profile.specs.Request.{Request, setup, list, asks, readRequest, writeRequest, withVerdict, RequestFits}
 use Rattle.profile.specs.Agent.{Given, Answer, done, find, act, lowestEmpty, replyFrame, Call, Outcome, refuse, replied, agent}
@@ -19,6 +20,7 @@ use Rattle.profile.specs.Device.{Fields, requestOf, fieldsIn, Arrays, Wr
 use Rattle.profile.specs.BytesCases
 use Rattle.profile.specs.SizeCases
 use Rattle.profile.specs.TableCases
+use Rattle.profile.specs.TurningCases
 use Rattle.profile.specs.RequestCases
 use Rattle.profile.specs.ActCases
 use Rattle.profile.specs.Cases.{cases, holds}
@@ -42,6 +44,13 @@ pub record Packs (t : List Slot) : Type 0 where
   pub whole : wholeSlots (tableOf t) ≡ true
   pub well : wellTable (tableOf t) ≡ true
   pub again : slotsOf (tableOf t) ≡ t
+
+-- what the turning leaves with the number 0: a well-formed table, which holds what the table held before, by the rules of then; no byte of a slot but its first is another
+pub record Turns (table : Bytes) (o : Turned) : Type 0 where
+  pub whole : wholeSlots (o .table) ≡ true
+  pub well : wellTable (o .table) ≡ true
+  pub holds : slotsOf (o .table) ≡ map unpackBefore (slotBytes table)
+  pub others : map (drop 1) (slotBytes (o .table)) ≡ map (drop 1) (slotBytes table)
 
 -- a table whole and well formed
 pub record Stays (table : Bytes) : Type 0 where
@@ -80,6 +89,10 @@ pub record Theorems : Type 0 where
   pub unpacks : (table : Bytes) → Bytes256 table → wholeSlots table ≡ true → wellTable table ≡ true → Unpacks table
   pub packs : (t : List Slot) → TableFits t → distinct t ≡ true → 1 ≤ length t → length t ≤ 15 → Packs t
   pub apart : (t : List Slot) → (distinct t ≡ true) ↔ Apart t
+  -- PROFILE 2.7: what the turning leaves, and that it changes nothing where it refuses; a table with a kept count is refused, and so one that was turned
+  pub turns : (table : Bytes) → eqb (turn table .number) 0 ≡ true → Turns table (turn table)
+  pub turn-refuses : (table : Bytes) → eqb (turn table .number) 0 ≡ false → turn table .table ≡ table
+  pub turned-once : (table : Bytes) → wholeSlots table ≡ true → any keepsCount (slotsOf table) ≡ true → turn table ≡ record { number = 103; table = table }
   -- PROFILE 6.4: a request reads back to the fields written; a frame that reads as a request is written again to the same bytes, but for its verdict
   pub read-fits : (f : Bytes) (q : Request) → readRequest f ≡ asks q → RequestFits q
   pub read-write : (q : Request) → RequestFits q → readRequest (writeRequest q) ≡ asks q
@@ -106,6 +119,7 @@ pub record Theorems : Type 0 where
   pub bytes-hold : BytesCases.Hold
   pub sizes-hold : SizeCases.Hold
   pub tables-hold : TableCases.Hold
+  pub turnings-hold : TurningCases.Hold
   pub requests-hold : RequestCases.Hold
   pub acts-hold : ActCases.Hold
   pub cases-hold : holds cases

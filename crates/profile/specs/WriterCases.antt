@@ -46,37 +46,40 @@ z10 = replicate 10 0x00
 abbrev pub z16 : Bytes
 z16 = replicate 16 0x00
 
--- handle and new handle; key; length, count and limit; hashes and payload
-abbrev pub all-of : Bytes → Bytes → Bytes → ℕ → ℕ → ℕ → Bytes → Bytes → Fields
-all-of handle new key room count limit hashes payload =
-    record { handle = handle; new = new; key = key; room = room; count = count; limit = limit; hashes = hashes; payload = payload }
+-- handle and new handle; key; length, count, its bit and limit; hashes and payload
+abbrev pub all-of : Bytes → Bytes → Bytes → ℕ → ℕ → ℕ → ℕ → Bytes → Bytes → Fields
+all-of handle new key room count kept limit hashes payload =
+    record { handle = handle; new = new; key = key; room = room; count = count; kept = kept; limit = limit; hashes = hashes; payload = payload }
 
 -- the same fields but for one
 abbrev pub with-new : Bytes → Fields → Fields
-with-new x f = record { handle = f .handle; new = x; key = f .key; room = f .room; count = f .count; limit = f .limit; hashes = f .hashes; payload = f .payload }
+with-new x f = record { handle = f .handle; new = x; key = f .key; room = f .room; count = f .count; kept = f .kept; limit = f .limit; hashes = f .hashes; payload = f .payload }
 
 abbrev pub with-key : Bytes → Fields → Fields
-with-key x f = record { handle = f .handle; new = f .new; key = x; room = f .room; count = f .count; limit = f .limit; hashes = f .hashes; payload = f .payload }
+with-key x f = record { handle = f .handle; new = f .new; key = x; room = f .room; count = f .count; kept = f .kept; limit = f .limit; hashes = f .hashes; payload = f .payload }
 
 abbrev pub with-room : ℕ → Fields → Fields
-with-room x f = record { handle = f .handle; new = f .new; key = f .key; room = x; count = f .count; limit = f .limit; hashes = f .hashes; payload = f .payload }
+with-room x f = record { handle = f .handle; new = f .new; key = f .key; room = x; count = f .count; kept = f .kept; limit = f .limit; hashes = f .hashes; payload = f .payload }
 
 abbrev pub with-count : ℕ → Fields → Fields
-with-count x f = record { handle = f .handle; new = f .new; key = f .key; room = f .room; count = x; limit = f .limit; hashes = f .hashes; payload = f .payload }
+with-count x f = record { handle = f .handle; new = f .new; key = f .key; room = f .room; count = x; kept = f .kept; limit = f .limit; hashes = f .hashes; payload = f .payload }
+
+abbrev pub with-kept : ℕ → Fields → Fields
+with-kept x f = record { handle = f .handle; new = f .new; key = f .key; room = f .room; count = f .count; kept = x; limit = f .limit; hashes = f .hashes; payload = f .payload }
 
 abbrev pub with-limit : ℕ → Fields → Fields
-with-limit x f = record { handle = f .handle; new = f .new; key = f .key; room = f .room; count = f .count; limit = x; hashes = f .hashes; payload = f .payload }
+with-limit x f = record { handle = f .handle; new = f .new; key = f .key; room = f .room; count = f .count; kept = f .kept; limit = x; hashes = f .hashes; payload = f .payload }
 
 abbrev pub with-hashes : Bytes → Fields → Fields
-with-hashes x f = record { handle = f .handle; new = f .new; key = f .key; room = f .room; count = f .count; limit = f .limit; hashes = x; payload = f .payload }
+with-hashes x f = record { handle = f .handle; new = f .new; key = f .key; room = f .room; count = f .count; kept = f .kept; limit = f .limit; hashes = x; payload = f .payload }
 
 abbrev pub with-payload : Bytes → Fields → Fields
-with-payload x f = record { handle = f .handle; new = f .new; key = f .key; room = f .room; count = f .count; limit = f .limit; hashes = f .hashes; payload = x }
+with-payload x f = record { handle = f .handle; new = f .new; key = f .key; room = f .room; count = f .count; kept = f .kept; limit = f .limit; hashes = f .hashes; payload = x }
 
 abbrev pub with-handle : Bytes → Fields → Fields
-with-handle x f = record { handle = x; new = f .new; key = f .key; room = f .room; count = f .count; limit = f .limit; hashes = f .hashes; payload = f .payload }
+with-handle x f = record { handle = x; new = f .new; key = f .key; room = f .room; count = f .count; kept = f .kept; limit = f .limit; hashes = f .hashes; payload = f .payload }
 
--- a field that the kind does not have and that is not blank: 202, though the buffer is too short; a byte of an array, the first and the last
+-- a field that the kind does not have and that is not blank, or does not allow: 202, though the buffer is too short; a byte of an array, the first and the last
 abbrev pub lacks : ℕ → Fields → List (Fields → Fields) → List Case
 lacks kind f [] = []
 lacks kind f (w ∷ ws) = refuses kind (w f) 0 202 ∷ lacks kind f ws
@@ -97,7 +100,11 @@ abbrev pub some-room : List (Fields → Fields)
 some-room = with-room 1 ∷ with-room 256 ∷ []
 
 abbrev pub some-count : List (Fields → Fields)
-some-count = with-count 1 ∷ with-count 256 ∷ []
+some-count = with-count 1 ∷ with-count 256 ∷ with-kept 1 ∷ with-kept 2 ∷ []
+
+-- what says no count, from fields that have one: its number without the bit, and a bit that is neither 0 nor 1
+abbrev pub bad-count : List (Fields → Fields)
+bad-count = with-kept 0 ∷ with-kept 2 ∷ with-kept 255 ∷ []
 
 abbrev pub some-limit : List (Fields → Fields)
 some-limit = with-limit 1 ∷ with-limit 256 ∷ []
@@ -110,31 +117,31 @@ some-payload = with-payload (0x00 ∷ []) ∷ []
 
 -- ---- the fields of each kind
 abbrev pub of1 : Fields
-of1 = all-of h z10 z16 0x3132 0 0 [] []
+of1 = all-of h z10 z16 0x3132 0 0 0 [] []
 
 abbrev pub of2 : Fields
-of2 = all-of h z10 key 0 0x3334 0 p (hex "51 52")
+of2 = all-of h z10 key 0 0x3334 1 0 p (hex "51 52")
 
 abbrev pub of3 : Fields
-of3 = all-of h n z16 0 0 0 [] []
+of3 = all-of h n z16 0 0 0 0 [] []
 
 abbrev pub of5 : Fields
-of5 = all-of h z10 z16 0 0x3334 0 [] []
+of5 = all-of h z10 z16 0 0x3334 1 0 [] []
 
 abbrev pub of6 : Fields
-of6 = all-of h z10 z16 0 0 0 [] []
+of6 = all-of h z10 z16 0 0 0 0 [] []
 
 abbrev pub of8 : Fields
-of8 = all-of z10 z10 z16 0 0 0x3536 p []
+of8 = all-of z10 z10 z16 0 0 0 0x3536 p []
 
 -- ---- the frame of each kind, with the verdict 1
 unfoldable pub frames : List Case
 frames =
     writes 1 of1 (hex "21 80 00 0C" ++ h ++ hex "31 32")
-    ++ writes 2 of2 (hex "22 80 00 33" ++ h ++ key ++ hex "33 34 10" ++ p ++ hex "51 52")
+    ++ writes 2 of2 (hex "22 C0 00 33" ++ h ++ key ++ hex "33 34 10" ++ p ++ hex "51 52")
     ++ writes 3 of3 (hex "23 80 00 14" ++ h ++ n)
     ++ writes 4 of3 (hex "24 80 00 14" ++ h ++ n)
-    ++ writes 5 of5 (hex "25 80 00 0C" ++ h ++ hex "33 34")
+    ++ writes 5 of5 (hex "25 C0 00 0C" ++ h ++ hex "33 34")
     ++ writes 6 of6 (hex "26 80 00 0A" ++ h)
     ++ writes 7 of6 (hex "27 80 00 0A" ++ h)
     ++ writes 8 of8 (hex "28 80 00 17 35 36 01" ++ p)
@@ -142,7 +149,14 @@ frames =
     -- every field may be zero: the writer tests neither a length of 0 nor equal handles
     ++ writes 1 (with-room 0 of6) (hex "21 80 00 0C" ++ h ++ hex "00 00")
     ++ writes 4 (with-new h of6) (hex "24 80 00 14" ++ h ++ h)
-    ++ writes 8 (all-of z10 z10 z16 0 0 0 [] []) (hex "28 80 00 03 00 00 00")
+    ++ writes 8 (all-of z10 z10 z16 0 0 0 0 [] []) (hex "28 80 00 03 00 00 00")
+    -- no count kept, and a kept count of 0, of 1 and of the greatest number
+    ++ writes 2 (with-count 0 (with-kept 0 of2)) (hex "22 80 00 33" ++ h ++ key ++ hex "00 00 10" ++ p ++ hex "51 52")
+    ++ writes 2 (with-count 0 of2) (hex "22 C0 00 33" ++ h ++ key ++ hex "00 00 10" ++ p ++ hex "51 52")
+    ++ writes 5 of6 (hex "25 80 00 0C" ++ h ++ hex "00 00")
+    ++ writes 5 (with-count 0 of5) (hex "25 C0 00 0C" ++ h ++ hex "00 00")
+    ++ writes 5 (with-count 1 of5) (hex "25 C0 00 0C" ++ h ++ hex "00 01")
+    ++ writes 5 (with-count 65535 of5) (hex "25 C0 00 0C" ++ h ++ hex "FF FF")
 
 -- ---- 202
 unfoldable pub refusals : List Case
@@ -170,19 +184,19 @@ refusals =
 -- hashes of none and eight, payloads of one and 4,096 bytes
 unfoldable pub bounds : List Case
 bounds =
-    writes 2 (with-hashes [] (with-payload (hex "51") of2)) (hex "22 80 00 1E" ++ h ++ key ++ hex "33 34 00 51")
-    ++ writes 2 (with-hashes eight of2) (hex "22 80 00 BF" ++ h ++ key ++ hex "33 34 80" ++ eight ++ hex "51 52")
+    writes 2 (with-hashes [] (with-payload (hex "51") of2)) (hex "22 C0 00 1E" ++ h ++ key ++ hex "33 34 00 51")
+    ++ writes 2 (with-hashes eight of2) (hex "22 C0 00 BF" ++ h ++ key ++ hex "33 34 80" ++ eight ++ hex "51 52")
     ++ writes 8 (with-hashes eight of8) (hex "28 80 00 A3 35 36 08" ++ eight)
-    ++ take 1 (writes 2 (with-payload (replicate 4096 0x5A) of2) (hex "22 80 10 31" ++ h ++ key ++ hex "33 34 10" ++ p ++ replicate 4096 0x5A))
+    ++ take 1 (writes 2 (with-payload (replicate 4096 0x5A) of2) (hex "22 C0 10 31" ++ h ++ key ++ hex "33 34 10" ++ p ++ replicate 4096 0x5A))
 
--- kind by kind, the fields that it does not have
+-- kind by kind, the fields that it does not have; for kinds 2 and 5 also what says no count
 unfoldable pub lacking : List Case
 lacking =
     lacks 1 of1 (some-new ++ some-key ++ some-count ++ some-limit ++ some-hashes ++ some-payload)
-    ++ lacks 2 of2 (some-new ++ some-room ++ some-limit)
+    ++ lacks 2 of2 (some-new ++ some-room ++ some-limit ++ bad-count)
     ++ lacks 3 of3 (some-key ++ some-room ++ some-count ++ some-limit ++ some-hashes ++ some-payload)
     ++ lacks 4 of3 (some-key ++ some-room ++ some-count ++ some-limit ++ some-hashes ++ some-payload)
-    ++ lacks 5 of5 (some-new ++ some-key ++ some-room ++ some-limit ++ some-hashes ++ some-payload)
+    ++ lacks 5 of5 (some-new ++ some-key ++ some-room ++ some-limit ++ some-hashes ++ some-payload ++ bad-count)
     ++ lacks 6 of6 (some-new ++ some-key ++ some-room ++ some-count ++ some-limit ++ some-hashes ++ some-payload)
     ++ lacks 7 of6 (some-new ++ some-key ++ some-room ++ some-count ++ some-limit ++ some-hashes ++ some-payload)
     ++ lacks 8 of8 (some-handle ++ some-new ++ some-key ++ some-room ++ some-count ++ some-payload)
