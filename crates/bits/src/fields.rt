@@ -3,7 +3,7 @@ ghost use mathlib.Core.Path.{_≡_};
 ghost use Prim.Native.Nat.{_+_, _*_, _/_, _%_, _<_};
 ghost use Rattle.profile.specs.Bytes.{if_then_else_};
 
-// Byte 0 of a slot has the place, the hash count and two spare bits (PROFILE 2.2): the place's number.
+// Byte 0 of a slot has the place, the hash count, the bit of a count and a spare bit (PROFILE 2.2): the place's number.
 pub fn slot_place(b: u8) -> u8
     ensures { λ r. ⌜ r ≡ b / 64 ⌝ }
 {
@@ -17,19 +17,26 @@ pub fn slot_hashes(b: u8) -> u8
     (b >> 2) & 15
 }
 
-// The two spare bits of slot byte 0, which are 0 in a well-formed slot (PROFILE 2.4).
-pub fn slot_spare(head: u8) -> u8
-    ensures { λ r. ⌜ r ≡ head % 4 ⌝ }
+// The bit of slot byte 0 that says whether a count is kept (PROFILE 2.6).
+pub fn slot_kept(b: u8) -> u8
+    ensures { λ r. ⌜ r ≡ b / 2 % 2 ⌝ }
 {
-    head & 3
+    (b >> 1) & 1
 }
 
-// Slot byte 0 with a place and a hash count, and its spare bits 0.
-pub fn slot_head(place: u8, hashes: u8) -> u8
-    requires { ⌜ (place < 4) × (hashes < 16) ⌝ }
-    ensures { λ r. ⌜ r ≡ 64 * place + 4 * hashes ⌝ }
+// The spare bit of slot byte 0, which is 0 in a well-formed slot (PROFILE 2.4).
+pub fn slot_spare(head: u8) -> u8
+    ensures { λ r. ⌜ r ≡ head % 2 ⌝ }
 {
-    (place << 6) | (hashes << 2)
+    head & 1
+}
+
+// Slot byte 0 with a place, a hash count and the bit of a count, and its spare bit 0.
+pub fn slot_head(place: u8, hashes: u8, kept: u8) -> u8
+    requires { ⌜ (place < 4) × (hashes < 16) × (kept < 2) ⌝ }
+    ensures { λ r. ⌜ r ≡ 64 * place + 4 * hashes + 2 * kept ⌝ }
+{
+    (place << 6) | ((hashes << 2) | (kept << 1))
 }
 
 // Byte 0 of a frame has the version and the kind (PROFILE 3.1): the version.
@@ -73,6 +80,36 @@ pub fn flag_byte(on: bool) -> u8
     ensures { λ r. ⌜ r ≡ (if on then 128 else 0) ⌝ }
 {
     if on { 1 << 7 } else { 0 }
+}
+
+// A bit as a flag with seven zero bits below it: the second byte of a success, whose status is 0 (PROFILE 3.2).
+pub fn flag_of_bit(bit: u8) -> u8
+    requires { ⌜ bit < 2 ⌝ }
+    ensures { λ r. ⌜ r ≡ 128 * bit ⌝ }
+{
+    bit << 7
+}
+
+// In a request with a count, the bit that says whether one is kept stands below the verdict (PROFILE 3.1).
+pub fn request_kept(b: u8) -> u8
+    ensures { λ r. ⌜ r ≡ b / 64 % 2 ⌝ }
+{
+    (b >> 6) & 1
+}
+
+// The six bits below it, which must be 0.
+pub fn request_rest(second: u8) -> u8
+    ensures { λ r. ⌜ r ≡ second % 64 ⌝ }
+{
+    second & 63
+}
+
+// The second byte of a request: the verdict 1, the bit of a count, and six zero bits.
+pub fn request_second(kept: u8) -> u8
+    requires { ⌜ kept < 2 ⌝ }
+    ensures { λ r. ⌜ r ≡ 128 + 64 * kept ⌝ }
+{
+    (1 << 7) | (kept << 6)
 }
 
 // In a frame a hash count stands above four zero bits (PROFILE 3.3, 3.4): the hash count.

@@ -1,0 +1,2 @@
+-- The law that the reader of a count cites.
+pub mod Bits
