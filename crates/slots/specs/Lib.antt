@@ -1,4 +1,5 @@
 pub mod Places
 pub mod Heads
 pub mod Taken
+pub mod Rules
 pub mod Readers

@@ -15,7 +15,7 @@ pub struct Head {
     pub length: usize,
 }
 
-// Place and hash count are in byte 0, the count and the payload length are numbers of 16 bits (PROFILE 2.2).
+// Place, hash count and the bit of the count are in byte 0; the count's number and the payload length have 16 bits (PROFILE 2.2).
 pub fn head_of(s: &[u8]) -> Head
     requires { ⌜ length (now s) ≡ slotSize ⌝ }
     ensures { λ r. ⌜ HeadOf (now (s .entry)) r ⌝ }
@@ -23,7 +23,7 @@ pub fn head_of(s: &[u8]) -> Head
     Head {
         place: crate::place::place_of(s),
         hashes: bits::fields::slot_hashes(s[0]) as usize,
-        count: words::word_at(s, COUNT_AT),
+        count: counts::count_with(bits::fields::slot_kept(s[0]), words::word_at(s, COUNT_AT)),
         length: words::word_at(s, LENGTH_AT) as usize,
     }
 }

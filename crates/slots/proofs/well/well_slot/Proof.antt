@@ -1,41 +1,20 @@
--- `slots::well::well_slot` meets its contract: an empty slot, and any other. Assumes nothing.
+-- `slots::well::well_slot` meets its contract: the two lowest bits of byte 0, and the rest. Assumes nothing.
 use denote.Ref.{now}
-use mathlib.Core.Path.{sym, _∙_}
-use native.Mathlib.Omega.{arith}
-use Rattle.slots.proofs.WellSlots.{empty-slot}
+use Rattle.slots.proofs.WellSlots.{well-parts}
 use borrow.Author.Needs.{needs}
 use Rattle.slots.proofs.well.well_slot.Statement.{statement}
 use Rattle.slots.proofs.well.well_slot.Tie as tie
 
-head-of-requires : tie.Need-head-of-requires
-head-of-requires c κs = search needs
+well-low-requires : tie.Need-well-low-requires
+well-low-requires c κs = search needs
 
-shared-slice-read-slot-place : tie.Need-shared-slice-read-slot-place
-shared-slice-read-slot-place c = search needs
-
-slot-place-requires : tie.Need-slot-place-requires
-slot-place-requires c κs = search needs
-
-all-zero-requires : tie.Need-all-zero-requires
-all-zero-requires c κs = search needs
+well-rest-requires : tie.Need-well-rest-requires
+well-rest-requires c κs = search needs
 
 returns : tie.Need-returns
-returns c = c .all-zero .ensures ∙ sym (empty-slot (now (c .before .before .before .before .before .before .args .s)) (omega (arith, c .before .before .slot-place .ensures, c .before .if1 .taken)))
-
-well-taken-requires : tie.Need-well-taken-requires
-well-taken-requires c κs = search needs
-
-returns-2 : tie.Need-returns-2
-returns-2 c = search needs
+returns c =
+    let a = c .before .before .before in
+    well-parts (now (a .args .s)) (a .args .old) _ _ (c .before .well-low .ensures) (c .well-rest .ensures)
 
 pub well-slot-spec : {M : Type 1} → statement M
-well-slot-spec =
-    tie.close
-    (tie.spec
-    head-of-requires
-    shared-slice-read-slot-place
-    slot-place-requires
-    all-zero-requires
-    returns
-    well-taken-requires
-    returns-2)
+well-slot-spec = tie.close (tie.spec well-low-requires well-rest-requires returns)

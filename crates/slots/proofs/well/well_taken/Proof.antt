@@ -20,12 +20,6 @@ returns-2 c =
 payload-in-requires : tie.Need-payload-in-requires
 payload-in-requires c κs = search needs
 
-shared-slice-read-slot-spare : tie.Need-shared-slice-read-slot-spare
-shared-slice-read-slot-spare c = search needs
-
-slot-spare-requires : tie.Need-slot-spare-requires
-slot-spare-requires c κs = search needs
-
 mul-zero-part : tie.Need-mul-zero-part
 mul-zero-part c = search needs
 
@@ -48,15 +42,14 @@ returns-3 : tie.Need-returns-3
 returns-3 c =
     let zero-part2 = c .before in
     let zero-part = zero-part2 .before in
-    let slot-spare = zero-part .before in
-    let payload-in = slot-spare .before .before in
+    let payload-in = zero-part .before in
     let tested = payload-in .before in
     let tested-2 = tested .before in
     let a = tested-2 .before .before in
     let h = a .pre .1 in
-    taken-parts (now (a .args .s)) (a .pre .0) (a .args .head .place) (a .args .head .hashes) (a .args .head .length) _ _ _ _
+    taken-parts (now (a .args .s)) (a .pre .0) (a .args .head .place) (a .args .head .hashes) (a .args .head .length) _ _ _
     (h .place-is) (a .pre .2) (h .hashes-are) (h .length-is) (tested-2 .if1 .left) (tested .if2 .left)
-    (slot-spare .slot-spare .ensures) (zero-part .zero-part .ensures) (rw (payload-in .payload-in .ensures .0) at (zero-part2 .zero-part2 .ensures)) (c .awaits-well .ensures)
+    (zero-part .zero-part .ensures) (rw (payload-in .payload-in .ensures .0) at (zero-part2 .zero-part2 .ensures)) (c .awaits-well .ensures)
 
 pub well-taken-spec : {M : Type 1} → statement M
 well-taken-spec =
@@ -65,8 +58,6 @@ well-taken-spec =
     returns
     returns-2
     payload-in-requires
-    shared-slice-read-slot-spare
-    slot-spare-requires
     mul-zero-part
     add-zero-part
     zero-part-requires
