@@ -2,11 +2,11 @@
 use Prim.Native.Nat.{ℕ, suc, _+_, _*_, _≤_, _<_}
 use mathlib.Core.Path.{_≡_, refl, ap, _∙_}
 use mathlib.Core.List.{List, _∷_}
-use mathlib.Core.Bool.{true, false, _&&_, not}
+use mathlib.Core.Bool.{Bool, true, false, _&&_, not}
 use lib.ListN.{drop}
 use Rattle.profile.specs.Bytes.{Bytes, part, all}
 use Rattle.profile.specs.Slot.{Slot, empty, taken, named, inUse, distinct}
-use Rattle.profile.specs.Table.{placeOf, unpack, wellSlot, slotCount, slotBytes, slotsOf}
+use Rattle.profile.specs.Table.{placeOf, unpack, slotCount, slotBytes, slotsOf}
 use Rattle.profile.specs.Agent.{lowestEmpty}
 use Rattle.slots.proofs.Turns.{all-pass, all-stop}
 use Rattle.slots.proofs.Unpacking.{unpack-empty, unpack-taken}
@@ -28,11 +28,12 @@ module _ (t : Bytes) (i : ℕ) (h : i < slotCount t) (s : Bytes) (e : s ≡ part
   pub slots-from : drop i (slotsOf t) ≡ unpack s ∷ drop (i + 1) (slotsOf t)
   slots-from = rw e (slots-step t i h)
 
-  pub well-pass : wellSlot s ≡ true → all wellSlot (drop i (slotBytes t)) ≡ all wellSlot (drop (i + 1) (slotBytes t))
-  well-pass = all-pass wellSlot bytes-from
+  -- a test of the bytes of each slot
+  pub each-pass : (f : Bytes → Bool) → f s ≡ true → all f (drop i (slotBytes t)) ≡ all f (drop (i + 1) (slotBytes t))
+  each-pass f = all-pass f bytes-from
 
-  pub well-stop : wellSlot s ≡ false → all wellSlot (drop i (slotBytes t)) ≡ false
-  well-stop = all-stop wellSlot bytes-from
+  pub each-stop : (f : Bytes → Bool) → f s ≡ false → all f (drop i (slotBytes t)) ≡ false
+  each-stop f = all-stop f bytes-from
 
   pub distinct-pass : again (drop i (slotsOf t)) ≡ false → distinct (drop i (slotsOf t)) ≡ distinct (drop (i + 1) (slotsOf t))
   distinct-pass p = ap distinct slots-from ∙ distinct-first (drop (i + 1) (slotsOf t)) (unpack s) ∙ rw (rw slots-from at p)
@@ -64,8 +65,8 @@ module _ (t : Bytes) (i : ℕ) (h : i < slotCount t) (s : Bytes) (e : s ≡ part
 
 -- ---- after the last slot
 module _ (t : Bytes) (i : ℕ) (h : slotCount t ≤ i) where
-  pub well-end : all wellSlot (drop i (slotBytes t)) ≡ true
-  well-end = rw (bytes-end t i h)
+  pub each-end : (f : Bytes → Bool) → all f (drop i (slotBytes t)) ≡ true
+  each-end f = rw (bytes-end t i h)
 
   pub distinct-end : distinct (drop i (slotsOf t)) ≡ true
   distinct-end = rw (slots-end t i h)

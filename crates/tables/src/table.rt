@@ -8,17 +8,19 @@ ghost use Prim.Native.Nat.{_<_};
 ghost use lib.ListN.{drop};
 ghost use Rattle.profile.specs.Bytes.{all};
 ghost use Rattle.profile.specs.Slot.{distinct};
-ghost use Rattle.profile.specs.Table.{wellSlot, wellTable, slotCount, slotBytes, slotsOf};
+ghost use Rattle.profile.specs.Table.{wellTable, slotCount, slotBytes, slotsOf};
+ghost use Rattle.slots.specs.Rules.{wellBy};
 ghost use Rattle.tables.specs.Again.{again};
+ghost use Rattle.tables.specs.Judged.{tableBy};
 
-// Each slot is well formed.
-fn all_well(t: &[u8]) -> bool
-    ensures { λ r. ⌜ r ≡ all wellSlot (slotBytes (now (t .entry))) ⌝ }
+// Each slot is well formed: by the rules of today, or by those from before counts had their bit.
+fn all_well(t: &[u8], old: bool) -> bool
+    ensures { λ r. ⌜ r ≡ all (wellBy old) (slotBytes (now (t .entry))) ⌝ }
 {
     let n = t.len() / SLOT_BYTES;
     let mut i = 0;
     while i < n {
-        if !slots::well::well_slot(slot_at(t, i)) {
+        if !slots::well::well_slot(slot_at(t, i), old) {
             return false;
         }
         i += 1;
@@ -53,12 +55,19 @@ fn all_distinct(t: &[u8]) -> bool
     true
 }
 
-// The slots, and then their handles; a table for which this is false is refused with 103.
-pub fn well_table(t: &[u8]) -> bool
-    ensures { λ r. ⌜ r ≡ wellTable (now (t .entry)) ⌝ }
+// The slots, and then their handles, by either rules; a table for which this is false is refused with 103.
+pub fn well_by(t: &[u8], old: bool) -> bool
+    ensures { λ r. ⌜ r ≡ tableBy old (now (t .entry)) ⌝ }
 {
-    if !all_well(t) {
+    if !all_well(t, old) {
         return false;
     }
     all_distinct(t)
+}
+
+// By the rules of today.
+pub fn well_table(t: &[u8]) -> bool
+    ensures { λ r. ⌜ r ≡ wellTable (now (t .entry)) ⌝ }
+{
+    well_by(t, false)
 }

@@ -67,9 +67,9 @@ pub fn zero_part(s: &[u8], from: usize, to: usize) -> bool
 pub fn clear(d: &mut [u8])
     ensures { λ _. ⌜ now (d .exit) ≡ zeros (length (now (d .entry))) ⌝ }
 {
-    let mut i = 0;
-    while i < d.len() {
-        d[i] = 0;
-        i += 1;
+    let mut at = 0;
+    while at < d.len() {
+        d[at] = 0;
+        at += 1;
     }
 }

@@ -21,23 +21,23 @@ loop-holds c = (omega arith, (refl, refl))
 slice-write-d : tie.Need-slice-write-d Inv-loop μ-loop
 slice-write-d c = omega arith
 
-add-i : tie.Need-add-i Inv-loop μ-loop
-add-i c = omega arith
+add-at : tie.Need-add-at Inv-loop μ-loop
+add-at c = omega arith
 
 loop-less : tie.Need-loop-less Inv-loop μ-loop
 loop-less c = omega arith
 
 loop-again : tie.Need-loop-again Inv-loop μ-loop
 loop-again c =
-    let h : c .before .loop .i < length (c .before .before .args .d .now) = omega arith in
-    (omega arith, (ap (λ (l : List ℕ). set l (c .before .loop .i) 0) (c .before .loop .inv .1 .0) ∙ fill-more _ 0 _ h, simp length-set (c .before .loop .inv .1 .1)))
+    let h : c .before .loop .at < length (c .before .before .args .d .now) = omega arith in
+    (omega arith, (ap (λ (l : List ℕ). set l (c .before .loop .at) 0) (c .before .loop .inv .1 .0) ∙ fill-more _ 0 _ h, simp length-set (c .before .loop .inv .1 .1)))
 
 same-length : tie.Need-same-length Inv-loop μ-loop
 same-length c = c .before .loop .inv .1 .1
 
 returns : tie.Need-returns Inv-loop μ-loop
 returns c =
-    let h : length (c .before .before .args .d .now) ≤ c .before .loop .i = omega arith in
+    let h : length (c .before .before .args .d .now) ≤ c .before .loop .at = omega arith in
     fill-end _ _ _ (c .before .loop .inv .0) h (c .before .loop .inv .1 .0)
 
 pub clear-spec : {M : Type 1} → statement M
@@ -48,7 +48,7 @@ clear-spec =
     μ-loop
     loop-holds
     slice-write-d
-    add-i
+    add-at
     loop-less
     loop-again
     same-length

@@ -7,16 +7,17 @@ use lib.ListN.{drop}
 use borrow.Author.Tests.{not-true, not-false}
 use borrow.Author.Needs.{needs}
 use Rattle.profile.specs.Bytes.{all}
-use Rattle.profile.specs.Table.{wellSlot, slotBytes}
-use Rattle.tables.proofs.Turns.{well-pass, well-stop, well-end}
+use Rattle.profile.specs.Table.{slotBytes}
+use Rattle.slots.specs.Rules.{wellBy}
+use Rattle.tables.proofs.Turns.{each-pass, each-stop, each-end}
 use Rattle.tables.proofs.table.all_well.Statement.{statement}
 use Rattle.tables.proofs.table.all_well.Tie as tie
 
 abbrev Inv-loop : tie.InvT-loop
-Inv-loop t n i₀ i = (i ≤ n) × (all wellSlot (slotBytes t) ≡ all wellSlot (drop i (slotBytes t)))
+Inv-loop t old n i₀ i = (i ≤ n) × (all (wellBy old) (slotBytes t) ≡ all (wellBy old) (drop i (slotBytes t)))
 
 abbrev μ-loop : tie.MeasureT-loop
-μ-loop t n i₀ i = n - i
+μ-loop t old n i₀ i = n - i
 
 loop-holds : tie.Need-loop-holds Inv-loop μ-loop
 loop-holds c = search needs
@@ -33,7 +34,7 @@ returns c =
     let lent = c .before .before in
     let l = lent .before .before in
     let t = now (l .before .before .args .t) in
-    sym (l .loop .inv .1 ∙ well-stop t (l .loop .i) (lent .before .loop-test .taken) _ (lent .slot-at .ensures .0) (sym (well .ensures) ∙ not-true (well .result) (c .if1 .taken)))
+    sym (l .loop .inv .1 ∙ each-stop t (l .loop .i) (lent .before .loop-test .taken) _ (lent .slot-at .ensures .0) (wellBy (l .before .before .args .old)) (sym (well .ensures) ∙ not-true (well .result) (c .if1 .taken)))
 
 add-i : tie.Need-add-i Inv-loop μ-loop
 add-i c = search needs
@@ -47,10 +48,10 @@ loop-again c =
     let lent = c .before .before in
     let l = lent .before .before in
     let t = now (l .before .before .args .t) in
-    (omega arith, l .loop .inv .1 ∙ well-pass t (l .loop .i) (lent .before .loop-test .taken) _ (lent .slot-at .ensures .0) (sym (well .ensures) ∙ not-false (well .result) (c .if1 .left)))
+    (omega arith, l .loop .inv .1 ∙ each-pass t (l .loop .i) (lent .before .loop-test .taken) _ (lent .slot-at .ensures .0) (wellBy (l .before .before .args .old)) (sym (well .ensures) ∙ not-false (well .result) (c .if1 .left)))
 
 returns-2 : tie.Need-returns-2 Inv-loop μ-loop
-returns-2 c = sym (c .before .loop .inv .1 ∙ well-end (now (c .before .before .before .args .t)) (c .before .loop .i) (c .loop-test .left))
+returns-2 c = sym (c .before .loop .inv .1 ∙ each-end (now (c .before .before .before .args .t)) (c .before .loop .i) (c .loop-test .left) (wellBy (c .before .before .before .args .old)))
 
 pub all-well-spec : {M : Type 1} → statement M
 all-well-spec =
