@@ -24,8 +24,8 @@ module _ (f : Bytes) (r : Asked) (a : Answers f r) where
   says-yes b e = asks-so (Yes b) e
 
   -- kinds 2 and 8: where the fields that stand in the frame end
-  pub install-within : (c n at len : ℕ) → r .ask ≡ Yes (Install c n at len) → InstallEnds f n at len
-  install-within c n at len e = rw e at (a .ends)
+  pub install-within : (n at len : ℕ) → r .ask ≡ Yes (Install n at len) → InstallEnds f n at len
+  install-within n at len e = rw e at (a .ends)
 
   pub list-within : (limit n at : ℕ) → r .ask ≡ Yes (List limit n at) → ListEnds f n at
   list-within limit n at e = rw e at (a .ends)

@@ -1,14 +1,16 @@
--- Tests and what the branches say of them: the sets for a `return` of a function whose contract goes by tests, and a number that is no kind.
+-- Tests and what the branches say of them: the sets for a `return` of a function whose contract goes by tests, and numbers that are no kind, or no kind with a count.
 -- Assumes nothing.
 use Prim.Native.Nat.{ℕ, zero, suc, _-_, _≤_, _<_}
 use mathlib.Core.Path.{_≡_, refl}
 use mathlib.Core.List.{List, [], _∷_}
-use mathlib.Core.Bool.{true, false}
+use mathlib.Core.Bool.{Bool, true, false, not}
 use mathlib.Core.Option.{none}
 use native.Mathlib.Omega.{arith}
 use lib.Dec.{ltb}
-use borrow.Author.Tests.{eq-eqb, ne-eqb, lt-ltb, le-ltb, le-leb, lt-leb}
+use borrow.Author.Tests.{eq-eqb, ne-eqb, lt-ltb, le-ltb, le-leb, lt-leb, not-true, not-false}
+use Rattle.profile.specs.Slot.{countHolds}
 use Rattle.profile.specs.Frame.{kindOf}
+use Rattle.profile.specs.Request.{sendsCount}
 
 pub ruleset tests = (eq-eqb, ne-eqb, lt-ltb, le-ltb, le-leb, lt-leb)
 
@@ -18,6 +20,13 @@ left-none n s h = le-ltb 0 (n - s) (omega arith)
 
 pub left-some : (n s : ℕ) → s < n → ltb 0 (n - s) ≡ true
 left-some n s h = lt-ltb 0 (n - s) (omega arith)
+
+-- the bit and the number of a count, as they were read: they say no count, or one
+pub no-count-said : {b m bit n : ℕ} {h : Bool} → b ≡ bit → m ≡ n → h ≡ countHolds b m → not h ≡ true → countHolds bit n ≡ false
+no-count-said {h = h} p q e t = rw (← p, ← q, ← e) (not-true h t)
+
+pub count-said : {b m bit n : ℕ} {h : Bool} → b ≡ bit → m ≡ n → h ≡ countHolds b m → not h ≡ false → countHolds bit n ≡ true
+count-said {h = h} p q e t = rw (← p, ← q, ← e) (not-false h t)
 
 -- what the last arm of a `match` on a number says: none of these, the last one first
 abbrev pub NoneOf : List ℕ → ℕ → Type 0
@@ -37,3 +46,17 @@ no-kind (suc (suc (suc (suc (suc (suc (suc zero))))))) h = absurd (h .0 .0 .1 re
 no-kind (suc (suc (suc (suc (suc (suc (suc (suc zero)))))))) h = absurd (h .0 .1 refl)
 no-kind (suc (suc (suc (suc (suc (suc (suc (suc (suc zero))))))))) h = absurd (h .1 refl)
 no-kind (suc (suc (suc (suc (suc (suc (suc (suc (suc (suc k)))))))))) h = refl
+
+-- a number that is not 2 or 5 is no kind that sends a count
+pub no-count : (k : ℕ) → NoneOf (5 ∷ 2 ∷ []) k → sendsCount (kindOf k) ≡ false
+no-count zero h = refl
+no-count (suc zero) h = refl
+no-count (suc (suc zero)) h = absurd (h .0 .1 refl)
+no-count (suc (suc (suc zero))) h = refl
+no-count (suc (suc (suc (suc zero)))) h = refl
+no-count (suc (suc (suc (suc (suc zero))))) h = absurd (h .1 refl)
+no-count (suc (suc (suc (suc (suc (suc zero)))))) h = refl
+no-count (suc (suc (suc (suc (suc (suc (suc zero))))))) h = refl
+no-count (suc (suc (suc (suc (suc (suc (suc (suc zero)))))))) h = refl
+no-count (suc (suc (suc (suc (suc (suc (suc (suc (suc zero))))))))) h = refl
+no-count (suc (suc (suc (suc (suc (suc (suc (suc (suc (suc k)))))))))) h = refl

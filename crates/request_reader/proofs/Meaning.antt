@@ -10,7 +10,9 @@ use lib.Seq.{drop-drop, take-all, getD-drop}
 use Rattle.profile.specs.Bytes.{Bytes, if_then_else_, byte, part, word, zeros, from1to}
 use Rattle.profile.specs.Sizes.{mostPayload, handleSize, keySize, hashSize, mostHashes}
 use Rattle.profile.specs.Frame.{Kind, Setup, Install, Retrieve, Rek, Enable, Remove, Cancel, List', Info, kindOf, kindNumber, isFrame, versionHolds, body, parameter}
-use Rattle.profile.specs.Request.{install, Read, asks, refused, zeroBits, verdict, bodyFits, guarded, fieldsHold, fields, readKind, readRequest}
+use Rattle.profile.specs.declared.Count.the-variants.{NoneKept}
+use Rattle.profile.specs.Slot.{Count, countHolds, countWith}
+use Rattle.profile.specs.Request.{install, Read, asks, refused, zeroBits, verdict, keptAsked, bodyFits, guarded, fieldsHold, fields, readKind, readRequest}
 use Rattle.profile.proofs.Logic.{and-parts, not-false, eqb-eq, leb-le, from-1-to-says}
 use Rattle.profile.proofs.Strings.{length-part, length-zeros}
 use Rattle.request_reader.specs.declared.asked.Why.{Why}
@@ -19,7 +21,7 @@ use Rattle.request_reader.specs.declared.asked.Body.{Body}
 use Rattle.request_reader.specs.declared.asked.Body.the-variants as variant
 use Rattle.request_reader.specs.declared.asked.Ask.the-variants.{Yes}
 use Rattle.request_reader.specs.declared.asked.Asked.{Asked}
-use Rattle.request_reader.specs.Asking.{refusal, oneHandle, twoHandles, installation, listQuery as listing, installHolds, ofInstall, listHolds, ofList, ofFields, heeded, ofKind, asked}
+use Rattle.request_reader.specs.Asking.{refusal, oneHandle, twoHandles, installation, listQuery as listing, installHolds, ofRight, ofInstall, ofEnable, listHolds, ofList, ofFields, heeded, ofKind, asked}
 use Rattle.request_reader.specs.Answer.{whyMeans, rightIn, meaning, InstallEnds, ListEnds, AskEnds, Sizes, Answers}
 
 -- two choices by one test, side by side
@@ -46,9 +48,9 @@ unfolding refusal meaning
 refuses f w = record { means = refl; ends = tt; sizes = none-sized (refusal w) refl refl refl }
 
 -- an answer with a handle, and with two
-one-agrees : (f : Bytes) (b : Body) (r : Read) → 14 ≤ length f → meaning f (oneHandle f b) ≡ r → AskEnds f (Yes b) → Agree f (oneHandle f b) r
+one-agrees : (f : Bytes) (c : Count) (b : Body) (r : Read) → 14 ≤ length f → meaning f (oneHandle f c b) ≡ r → AskEnds f (Yes b) → Agree f (oneHandle f c b) r
 unfolding oneHandle
-one-agrees f b r h m e = record { means = m; ends = e; sizes = record { handle-10 = length-part 4 handleSize f h; new-10 = length-zeros handleSize; key-16 = length-zeros keySize } }
+one-agrees f c b r h m e = record { means = m; ends = e; sizes = record { handle-10 = length-part 4 handleSize f h; new-10 = length-zeros handleSize; key-16 = length-zeros keySize } }
 
 two-agree : (f : Bytes) (b : Body) (r : Read) → 24 ≤ length f → meaning f (twoHandles f b) ≡ r → AskEnds f (Yes b) → Agree f (twoHandles f b) r
 unfolding twoHandles
@@ -72,6 +74,16 @@ module _ (f : Bytes) (is : isFrame f ≡ true) where
   word-10 : word 14 f ≡ word 10 (body f)
   word-10 = sym (word-from 4 10 f)
 
+  enable-tests : fieldsHold Enable f ≡ countHolds (keptAsked f) (word 14 f)
+  enable-tests = rw word-10
+
+  enable-agrees : n ≡ 12 → (b : Bool) → countHolds (keptAsked f) (word 14 f) ≡ b → Agree f (ofEnable f) (if not (fieldsHold Enable f) then refused parameter else asks (fields Enable f))
+  unfolding ofEnable oneHandle meaning
+  enable-agrees e true h =
+      rw (enable-tests, h)
+      (one-agrees f (countWith (keptAsked f) (word 14 f)) variant.Enable (asks (fields Enable f)) (omega (arith, long)) (rw word-10) tt)
+  enable-agrees e false h = rw (enable-tests, h) (refuses f Parameter)
+
   -- ---- kind 2
   from-14 : drop 10 (body f) ≡ drop 14 f
   from-14 = drop-drop 10 4 f
@@ -85,8 +97,8 @@ module _ (f : Bytes) (is : isFrame f ≡ true) where
   payload-size : length (drop 14 f) - (19 + hashSize * count) ≡ n - (29 + hashSize * count)
   payload-size = rw (length-drop 14 f) (omega (arith, long))
 
-  install-tests : fieldsHold Install f ≡ installHolds n f
-  install-tests = rw (from-14, byte-32, payload-size)
+  install-tests : fieldsHold Install f ≡ (installHolds n f && countHolds (keptAsked f) (word 30 f))
+  install-tests = rw (from-14, byte-32, payload-size, word-from 4 26 f)
 
   install-ends : installHolds n f ≡ true → InstallEnds f count 33 (n - (29 + hashSize * count))
   install-ends h =
@@ -99,7 +111,7 @@ module _ (f : Bytes) (is : isFrame f ≡ true) where
         ends = omega (arith, long, q .0);
       }
 
-  install-fields : installHolds n f ≡ true → install (part 4 handleSize f) (rightIn f (part 14 keySize f) (word 30 f) count 33 (n - (29 + hashSize * count))) ≡ fields Install f
+  install-fields : installHolds n f ≡ true → install (part 4 handleSize f) (rightIn f (part 14 keySize f) (countWith (keptAsked f) (word 30 f)) count 33 (n - (29 + hashSize * count))) ≡ fields Install f
   install-fields h =
       rw (from-14, byte-32, word-from 4 26 f, drop-drop 19 14 f, drop-drop (19 + hashSize * count) 14 f, payload)
     where
@@ -112,11 +124,11 @@ module _ (f : Bytes) (is : isFrame f ≡ true) where
       payload : part (33 + hashSize * count) (n - (29 + hashSize * count)) f ≡ drop (14 + (19 + hashSize * count)) f
       payload = take-all (n - (29 + hashSize * count)) (drop (33 + hashSize * count) f) (rw (length-drop (33 + hashSize * count) f) (omega (arith, e .ends))) ∙ ap (λ (i : ℕ). drop i f) offsets
 
-  install-agrees : (b : Bool) → installHolds n f ≡ b → Agree f (ofInstall n f) (if not (fieldsHold Install f) then refused parameter else asks (fields Install f))
-  unfolding ofInstall installation meaning
-  install-agrees true h =
+  install-agrees : (b c : Bool) → installHolds n f ≡ b → countHolds (keptAsked f) (word 30 f) ≡ c → Agree f (ofInstall n f) (if not (fieldsHold Install f) then refused parameter else asks (fields Install f))
+  unfolding ofInstall ofRight installation meaning
+  install-agrees true true h k =
       let e : InstallEnds f count 33 (n - (29 + hashSize * count)) = install-ends h in
-      rw (install-tests, h)
+      rw (install-tests, h, k)
       (record {
         means = ap asks (install-fields h);
         ends = e;
@@ -127,7 +139,8 @@ module _ (f : Bytes) (is : isFrame f ≡ true) where
               key-16 = length-part 14 keySize f (omega (arith, e .ends));
             };
       })
-  install-agrees false h = rw (install-tests, h) (refuses f Parameter)
+  install-agrees true false h k = rw (install-tests, h, k) (refuses f Parameter)
+  install-agrees false c h k = rw (install-tests, h) (refuses f Parameter)
 
   -- ---- kind 8
   byte-6 : byte 2 (body f) ≡ byte 6 f
@@ -155,15 +168,15 @@ module _ (f : Bytes) (is : isFrame f ≡ true) where
   -- ---- every kind, past the tests of its length and of the verdict
   fields-agree : (k : Kind) → bodyFits k n ≡ true → Agree f (ofFields k n f) (if not (fieldsHold k f) then refused parameter else asks (fields k f))
   unfolding oneHandle twoHandles meaning
-  fields-agree Setup h = one-agrees f (variant.Setup (word 14 f)) (asks (fields Setup f)) (omega (arith, long, eqb-eq n 12 h)) (rw word-10) tt
-  fields-agree Install h = install-agrees (installHolds n f) refl
+  fields-agree Setup h = one-agrees f NoneKept (variant.Setup (word 14 f)) (asks (fields Setup f)) (omega (arith, long, eqb-eq n 12 h)) (rw word-10) tt
+  fields-agree Install h = install-agrees (installHolds n f) (countHolds (keptAsked f) (word 30 f)) refl refl
   fields-agree Retrieve h = two-agree f variant.Retrieve (asks (fields Retrieve f)) (omega (arith, long, eqb-eq n 20 h)) (rw (rest 10 10 (eqb-eq n 20 h))) tt
   fields-agree Rek h = two-agree f variant.Rek (asks (fields Rek f)) (omega (arith, long, eqb-eq n 20 h)) (rw (rest 10 10 (eqb-eq n 20 h))) tt
-  fields-agree Enable h = one-agrees f (variant.Enable (word 14 f)) (asks (fields Enable f)) (omega (arith, long, eqb-eq n 12 h)) (rw word-10) tt
-  fields-agree Remove h = one-agrees f variant.Remove (asks (fields Remove f)) (omega (arith, long, eqb-eq n 10 h)) (rw (rest 0 10 (eqb-eq n 10 h))) tt
-  fields-agree Cancel h = one-agrees f variant.Cancel (asks (fields Cancel f)) (omega (arith, long, eqb-eq n 10 h)) (rw (rest 0 10 (eqb-eq n 10 h))) tt
+  fields-agree Enable h = enable-agrees (eqb-eq n 12 h) (countHolds (keptAsked f) (word 14 f)) refl
+  fields-agree Remove h = one-agrees f NoneKept variant.Remove (asks (fields Remove f)) (omega (arith, long, eqb-eq n 10 h)) (rw (rest 0 10 (eqb-eq n 10 h))) tt
+  fields-agree Cancel h = one-agrees f NoneKept variant.Cancel (asks (fields Cancel f)) (omega (arith, long, eqb-eq n 10 h)) (rw (rest 0 10 (eqb-eq n 10 h))) tt
   fields-agree List' h = list-agrees (listHolds n f) refl
-  fields-agree Info h = one-agrees f variant.Info (asks (fields Info f)) (omega (arith, long, eqb-eq n 10 h)) (rw (rest 0 10 (eqb-eq n 10 h))) tt
+  fields-agree Info h = one-agrees f NoneKept variant.Info (asks (fields Info f)) (omega (arith, long, eqb-eq n 10 h)) (rw (rest 0 10 (eqb-eq n 10 h))) tt
 
   verdict-alike : (k : Kind) (v : ℕ) → (guarded k && eqb v 0) ≡ eqb (heeded k v) 0
   verdict-alike k v = go (guarded k)

@@ -32,10 +32,10 @@ rightIn f key c n at len = rightWith key c (hashesIn f n at) (part (at + hashSiz
 
 abbrev pub bodyMeans : Bytes → Body → Asked → Request
 bodyMeans f (Setup n) r = setup (r .handle) n
-bodyMeans f (Install c n at len) r = install (r .handle) (rightIn f (r .key) c n at len)
+bodyMeans f (Install n at len) r = install (r .handle) (rightIn f (r .key) (r .count) n at len)
 bodyMeans f Retrieve r = retrieve (r .handle) (r .new)
 bodyMeans f Rek r = rek (r .handle) (r .new)
-bodyMeans f (Enable c) r = enable (r .handle) c
+bodyMeans f Enable r = enable (r .handle) (r .count)
 bodyMeans f Remove r = remove (r .handle)
 bodyMeans f Cancel r = cancel (r .handle)
 bodyMeans f (List limit n at) r = list limit (hashesIn f n at)
@@ -61,10 +61,10 @@ pub record ListEnds (f : Bytes) (n at : ℕ) : Type 0 where
 
 abbrev pub BodyEnds : Bytes → Body → Type 0
 BodyEnds f (Setup n) = Unit {0}
-BodyEnds f (Install c n at len) = InstallEnds f n at len
+BodyEnds f (Install n at len) = InstallEnds f n at len
 BodyEnds f Retrieve = Unit {0}
 BodyEnds f Rek = Unit {0}
-BodyEnds f (Enable c) = Unit {0}
+BodyEnds f Enable = Unit {0}
 BodyEnds f Remove = Unit {0}
 BodyEnds f Cancel = Unit {0}
 BodyEnds f (List limit n at) = ListEnds f n at

@@ -24,16 +24,13 @@ pub enum Body {
         length: u16,
     },
     Install {
-        count: Count,
         hashes: usize,
         at: usize,
         length: usize,
     },
     Retrieve,
     Rek,
-    Enable {
-        count: Count,
-    },
+    Enable,
     Remove,
     Cancel,
     List {
@@ -50,12 +47,14 @@ pub enum Ask {
     Yes(Body),
 }
 
-// An array that the kind lacks is all zero, and so is every array of a refusal.
+// An array that the kind lacks is all zero, and so is every array of a refusal; they keep no count. The count of kinds 2 and 5 stands
+// here and not in the body, so that it has one offset and the compiler needs no copy of the whole answer.
 pub struct Asked {
     pub ask: Ask,
     pub handle: [u8; HANDLE_BYTES],
     pub new: [u8; HANDLE_BYTES],
     pub key: [u8; KEY_BYTES],
+    pub count: Count,
 }
 
 // The handle of a kind that has none.
@@ -84,13 +83,14 @@ pub fn refuse(why: Why) -> Asked
         handle: handle,
         new: new,
         key: key,
+        count: Count::NoneKept,
     }
 }
 
-// The kinds with one handle: it stands first in the body, at offset 4 of the frame.
-pub fn with_handle(f: &[u8], body: Body) -> Asked
+// The kinds with one handle: it stands first in the body, at offset 4 of the frame. Kind 5 has a count too.
+pub fn with_handle(f: &[u8], count: Count, body: Body) -> Asked
     requires { ⌜ 14 ≤ length (now f) ⌝ }
-    ensures { λ r. ⌜ r ≡ oneHandle (now (f .entry)) body ⌝ }
+    ensures { λ r. ⌜ r ≡ oneHandle (now (f .entry)) count body ⌝ }
 {
     let handle = octets::arrays::handle_at(f, 4);
     let new = no_handle();
@@ -100,6 +100,7 @@ pub fn with_handle(f: &[u8], body: Body) -> Asked
         handle: handle,
         new: new,
         key: key,
+        count: count,
     }
 }
 
@@ -116,21 +117,20 @@ pub fn with_two(f: &[u8], body: Body) -> Asked
         handle: handle,
         new: new,
         key: key,
+        count: Count::NoneKept,
     }
 }
 
-// Kind 2: a handle, a key at offset 14, a count at offset 30, the hash count, and from offset 33 the hashes and the payload.
-pub fn with_right(f: &[u8], hashes: usize, payload: usize) -> Asked
+// Kind 2: a handle, a key at offset 14, its count, the hash count, and from offset 33 the hashes and the payload.
+pub fn with_right(f: &[u8], count: Count, hashes: usize, payload: usize) -> Asked
     requires { ⌜ 33 ≤ length (now f) ⌝ }
-    ensures { λ r. ⌜ r ≡ installation (now (f .entry)) hashes payload ⌝ }
+    ensures { λ r. ⌜ r ≡ installation (now (f .entry)) count hashes payload ⌝ }
 {
     let handle = octets::arrays::handle_at(f, 4);
     let new = no_handle();
     let key = octets::arrays::key_at(f, 14);
-    let count = words::word_at(f, 30);
     Asked {
         ask: Ask::Yes(Body::Install {
-            count: count,
             hashes: hashes,
             at: 33,
             length: payload,
@@ -138,6 +138,7 @@ pub fn with_right(f: &[u8], hashes: usize, payload: usize) -> Asked
         handle: handle,
         new: new,
         key: key,
+        count: count,
     }
 }
 
@@ -159,5 +160,6 @@ pub fn with_hashes(f: &[u8], hashes: usize) -> Asked
         handle: handle,
         new: new,
         key: key,
+        count: Count::NoneKept,
     }
 }

@@ -1,7 +1,8 @@
-// The request reader (PROFILE 6.1): first 104, then the tests for all kinds (PROFILE 4.3), then the field tests of kinds 2 and 8.
+// The request reader (PROFILE 6.1): first 104, then the tests for all kinds (PROFILE 4.3), then the field tests of kinds 2, 5 and 8.
 use crate::asked::Asked;
 use crate::asked::Body;
 use crate::asked::Why;
+use profile::Count;
 use profile::sizes::HANDLE_BYTES;
 use profile::sizes::HASH_BYTES;
 use profile::sizes::MOST_HASHES;
@@ -13,7 +14,9 @@ ghost use lib.Dec.{eqb, leb};
 ghost use Rattle.profile.specs.Sizes.{handleSize};
 ghost use Rattle.profile.specs.Frame.{kindOf};
 ghost use Rattle.profile.specs.Bytes.{word};
-ghost use Rattle.request_reader.specs.Asking.{tested, oneHandle, twoHandles, ofInstall, ofList, ofKind, asked};
+ghost use Rattle.profile.specs.declared.Count.the-variants.{NoneKept};
+ghost use Rattle.profile.specs.Request.{keptAsked};
+ghost use Rattle.request_reader.specs.Asking.{zeroBelow, tested, oneHandle, twoHandles, ofRight, ofInstall, ofEnable, ofList, ofKind, asked};
 ghost use Rattle.request_reader.specs.Answer.{Answers};
 ghost use Rattle.request_reader.specs.declared.asked.Body.the-variants as body;
 
@@ -34,10 +37,31 @@ fn wide_word(n: u16) -> usize
     n as usize
 }
 
-// Kinds 6, 7 and 9: a handle. Kinds 1 and 5 too: the word after the handle is in `body` already. `size` is the kind's body length.
+// The bit of the second byte that says whether a count is kept, for kinds 2 and 5 (PROFILE 3.1).
+fn kept_in(f: &[u8]) -> u8
+    requires { ⌜ 4 ≤ length (now f) ⌝ }
+    ensures { λ r. ⌜ r ≡ keptAsked (now (f .entry)) ⌝ }
+{
+    bits::fields::request_kept(f[1])
+}
+
+// Whether the zero bits of the second byte are 0: six for kinds 2 and 5, and seven for every other kind, known or not (PROFILE 3.1).
+fn zero_bits(kind: u8, second: u8) -> bool
+    ensures { λ r. ⌜ r ≡ zeroBelow (kindOf kind) second ⌝ }
+{
+    let six = bits::fields::request_rest(second) == 0;
+    let seven = bits::fields::flag_rest(second) == 0;
+    match kind {
+        2 => six,
+        5 => six,
+        _ => seven,
+    }
+}
+
+// Kinds 6, 7 and 9: a handle. Kind 1 too: the word after the handle is in `body` already. `size` is the kind's body length.
 fn read_one(f: &[u8], n: usize, size: usize, verdict: u8, body: Body) -> Asked
     requires { ⌜ (length (now f) ≡ 4 + n) × (handleSize ≤ size) ⌝ }
-    ensures { λ r. ⌜ r ≡ tested (eqb n size) verdict (oneHandle (now (f .entry)) body) ⌝ }
+    ensures { λ r. ⌜ r ≡ tested (eqb n size) verdict (oneHandle (now (f .entry)) NoneKept body) ⌝ }
 {
     if n != size {
         return crate::asked::refuse(Why::Parameter);
@@ -45,7 +69,7 @@ fn read_one(f: &[u8], n: usize, size: usize, verdict: u8, body: Body) -> Asked
     if verdict == 0 {
         return crate::asked::refuse(Why::Integrity);
     }
-    crate::asked::with_handle(f, body)
+    crate::asked::with_handle(f, Count::NoneKept, body)
 }
 
 // Kinds 3 and 4: a handle and the new handle.
@@ -65,7 +89,7 @@ fn read_two(f: &[u8], n: usize, verdict: u8, body: Body) -> Asked
 // Kind 1: a handle and a length, 12 bytes. A length of 0 is the agent's to refuse.
 fn read_setup(f: &[u8], n: usize, verdict: u8) -> Asked
     requires { ⌜ length (now f) ≡ 4 + n ⌝ }
-    ensures { λ r. ⌜ r ≡ tested (eqb n 12) verdict (oneHandle (now (f .entry)) (body.Setup (word 14 (now (f .entry))))) ⌝ }
+    ensures { λ r. ⌜ r ≡ tested (eqb n 12) verdict (oneHandle (now (f .entry)) NoneKept (body.Setup (word 14 (now (f .entry))))) ⌝ }
 {
     if n != 12 {
         return crate::asked::refuse(Why::Parameter);
@@ -74,16 +98,46 @@ fn read_setup(f: &[u8], n: usize, verdict: u8) -> Asked
     read_one(f, n, 12, verdict, Body::Setup { length: length })
 }
 
+// The field test of kind 5 (PROFILE 5.5), on a body of 12 bytes: without the bit, the number of the count is 0.
+fn enable_fields(f: &[u8]) -> Asked
+    requires { ⌜ 16 ≤ length (now f) ⌝ }
+    ensures { λ r. ⌜ r ≡ ofEnable (now (f .entry)) ⌝ }
+{
+    let kept = kept_in(f);
+    let returned = words::word_at(f, 14);
+    if !counts::count_holds(kept, returned) {
+        return crate::asked::refuse(Why::Parameter);
+    }
+    let count = counts::count_with(kept, returned);
+    crate::asked::with_handle(f, count, Body::Enable)
+}
+
 // Kind 5: a handle and a count, 12 bytes.
 fn read_enable(f: &[u8], n: usize, verdict: u8) -> Asked
     requires { ⌜ length (now f) ≡ 4 + n ⌝ }
-    ensures { λ r. ⌜ r ≡ tested (eqb n 12) verdict (oneHandle (now (f .entry)) (body.Enable (word 14 (now (f .entry))))) ⌝ }
+    ensures { λ r. ⌜ r ≡ tested (eqb n 12) verdict (ofEnable (now (f .entry))) ⌝ }
 {
     if n != 12 {
         return crate::asked::refuse(Why::Parameter);
     }
-    let count = words::word_at(f, 14);
-    read_one(f, n, 12, verdict, Body::Enable { count: count })
+    if verdict == 0 {
+        return crate::asked::refuse(Why::Integrity);
+    }
+    enable_fields(f)
+}
+
+// The count of kind 2 (PROFILE 5.2), on a body whose hashes and payload hold: without the bit, its number is 0.
+fn install_count(f: &[u8], hashes: usize, payload: usize) -> Asked
+    requires { ⌜ 33 ≤ length (now f) ⌝ }
+    ensures { λ r. ⌜ r ≡ ofRight (now (f .entry)) hashes payload ⌝ }
+{
+    let kept = kept_in(f);
+    let number = words::word_at(f, 30);
+    if !counts::count_holds(kept, number) {
+        return crate::asked::refuse(Why::Parameter);
+    }
+    let count = counts::count_with(kept, number);
+    crate::asked::with_right(f, count, hashes, payload)
 }
 
 // The field tests of kind 2 (PROFILE 5.2), on a body of 30 bytes or more.
@@ -106,7 +160,7 @@ fn install_fields(f: &[u8], n: usize) -> Asked
     if payload > MOST_PAYLOAD {
         return crate::asked::refuse(Why::Parameter);
     }
-    crate::asked::with_right(f, hashes, payload)
+    install_count(f, hashes, payload)
 }
 
 // Kind 2: a body of 30 bytes or more.
@@ -174,15 +228,11 @@ fn read_frame(f: &[u8]) -> Asked
     if bits::fields::frame_version(f[0]) != 1 {
         return crate::asked::refuse(Why::Parameter);
     }
-    if bits::fields::flag_rest(f[1]) != 0 {
+    let kind = bits::fields::frame_kind(f[0]);
+    if !zero_bits(kind, f[1]) {
         return crate::asked::refuse(Why::Parameter);
     }
-    read_kind(
-        f,
-        bits::fields::frame_kind(f[0]),
-        n,
-        bits::fields::flag_of(f[1]),
-    )
+    read_kind(f, kind, n, bits::fields::flag_of(f[1]))
 }
 
 // Every byte string is a request with its fields, or has exactly one refusal. Callers take the answer apart by let .. else.

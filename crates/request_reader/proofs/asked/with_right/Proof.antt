@@ -13,14 +13,10 @@ no-handle-requires c κs = search needs
 key-at-requires : tie.Need-key-at-requires
 key-at-requires c κs = search needs
 
-word-at-requires : tie.Need-word-at-requires
-word-at-requires c κs = search needs
-
 returns : tie.Need-returns
 unfolding installation
-returns c = rw (c .word-at .ensures, c .before .key-at .ensures, c .before .before .no-handle .ensures, c .before .before .before .handle-at .ensures)
+returns c = rw (c .key-at .ensures, c .before .no-handle .ensures, c .before .before .handle-at .ensures)
 
 pub with-right-spec : {M : Type 1} → statement M
 with-right-spec =
-    tie.close
-    (tie.spec handle-at-requires no-handle-requires key-at-requires word-at-requires returns)
+    tie.close (tie.spec handle-at-requires no-handle-requires key-at-requires returns)

@@ -66,8 +66,8 @@ returns-4 c =
     let counted = rest .before .before .before in
     search (tests, left-none, left-some, ← rest .hash-count-rest .ensures, ← counted .wide .ensures, ← counted .before .hash-count-of .ensures)
 
-with-right-requires : tie.Need-with-right-requires
-with-right-requires c κs = search needs
+install-count-requires : tie.Need-install-count-requires
+install-count-requires c κs = search needs
 
 returns-5 : tie.Need-returns-5
 unfolding ofInstall
@@ -96,5 +96,5 @@ install-fields-spec =
     sub-payload
     refuse-requires-4
     returns-4
-    with-right-requires
+    install-count-requires
     returns-5)

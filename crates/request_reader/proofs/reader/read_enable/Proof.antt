@@ -10,15 +10,25 @@ refuse-requires c κs = search needs
 returns : tie.Need-returns
 returns c = search tests
 
-word-at-requires : tie.Need-word-at-requires
-word-at-requires c κs = search needs
-
-read-one-requires : tie.Need-read-one-requires
-read-one-requires c κs = search needs
+refuse-requires-2 : tie.Need-refuse-requires-2
+refuse-requires-2 c κs = search needs
 
 returns-2 : tie.Need-returns-2
-returns-2 c = rw (← c .before .word-at .ensures) (c .read-one .ensures)
+returns-2 c = search tests
+
+enable-fields-requires : tie.Need-enable-fields-requires
+enable-fields-requires c κs = search needs
+
+returns-3 : tie.Need-returns-3
+returns-3 c = search tests
 
 pub read-enable-spec : {M : Type 1} → statement M
 read-enable-spec =
-    tie.close (tie.spec refuse-requires returns word-at-requires read-one-requires returns-2)
+    tie.close
+    (tie.spec
+    refuse-requires
+    returns
+    refuse-requires-2
+    returns-2
+    enable-fields-requires
+    returns-3)

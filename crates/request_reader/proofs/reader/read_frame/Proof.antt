@@ -1,4 +1,5 @@
 -- `request_reader::reader::read_frame` meets its contract, test by test. Assumes nothing.
+use borrow.Author.Tests.{not-true, not-false}
 use Rattle.request_reader.specs.Asking.{asked}
 use Rattle.request_reader.proofs.Choices.{tests}
 use borrow.Author.Needs.{needs}
@@ -44,11 +45,17 @@ returns-3 c =
     let long = version .before .before .before in
     search (tests, ← version .frame-version .ensures, ← long .wide-word .ensures, ← long .before .word-at .ensures)
 
-shared-slice-read-flag-rest : tie.Need-shared-slice-read-flag-rest
-shared-slice-read-flag-rest c = search needs
+shared-slice-read-frame-kind : tie.Need-shared-slice-read-frame-kind
+shared-slice-read-frame-kind c = search needs
 
-flag-rest-requires : tie.Need-flag-rest-requires
-flag-rest-requires c κs = search needs
+frame-kind-requires : tie.Need-frame-kind-requires
+frame-kind-requires c κs = search needs
+
+shared-slice-read-zero-bits : tie.Need-shared-slice-read-zero-bits
+shared-slice-read-zero-bits c = search needs
+
+zero-bits-requires : tie.Need-zero-bits-requires
+zero-bits-requires c κs = search needs
 
 refuse-requires-4 : tie.Need-refuse-requires-4
 refuse-requires-4 c κs = search needs
@@ -56,16 +63,12 @@ refuse-requires-4 c κs = search needs
 returns-4 : tie.Need-returns-4
 unfolding asked
 returns-4 c =
-    let rest = c .before .before in
-    let version = rest .before .before .before in
+    let zero = c .before .before in
+    let told = zero .before .before in
+    let version = told .before .before .before in
     let long = version .before .before .before in
-    search (tests, ← rest .flag-rest .ensures, ← version .frame-version .ensures, ← long .wide-word .ensures, ← long .before .word-at .ensures)
-
-shared-slice-read-frame-kind : tie.Need-shared-slice-read-frame-kind
-shared-slice-read-frame-kind c = search needs
-
-frame-kind-requires : tie.Need-frame-kind-requires
-frame-kind-requires c κs = search needs
+    search
+    (tests, not-true (zero .zero-bits .result) (c .before .if4 .taken), ← zero .zero-bits .ensures, ← told .frame-kind .ensures, ← version .frame-version .ensures, ← long .wide-word .ensures, ← long .before .word-at .ensures)
 
 shared-slice-read-flag-of : tie.Need-shared-slice-read-flag-of
 shared-slice-read-flag-of c = search needs
@@ -80,12 +83,13 @@ returns-5 : tie.Need-returns-5
 unfolding asked
 returns-5 c =
     let flagged = c .before in
-    let told = flagged .before .before in
-    let rest = told .before .before .before in
-    let version = rest .before .before .before in
+    let left = flagged .before .before in
+    let zero = left .before in
+    let told = zero .before .before in
+    let version = told .before .before .before in
     let long = version .before .before .before in
     search
-    (tests, ← flagged .flag-of .ensures, ← told .frame-kind .ensures, ← rest .flag-rest .ensures, ← version .frame-version .ensures, ← long .wide-word .ensures, ← long .before .word-at .ensures)
+    (tests, not-false (zero .zero-bits .result) (left .if4 .left), ← flagged .flag-of .ensures, ← zero .zero-bits .ensures, ← told .frame-kind .ensures, ← version .frame-version .ensures, ← long .wide-word .ensures, ← long .before .word-at .ensures)
 
 pub read-frame-spec : {M : Type 1} → statement M
 read-frame-spec =
@@ -102,12 +106,12 @@ read-frame-spec =
     frame-version-requires
     refuse-requires-3
     returns-3
-    shared-slice-read-flag-rest
-    flag-rest-requires
-    refuse-requires-4
-    returns-4
     shared-slice-read-frame-kind
     frame-kind-requires
+    shared-slice-read-zero-bits
+    zero-bits-requires
+    refuse-requires-4
+    returns-4
     shared-slice-read-flag-of
     flag-of-requires
     read-kind-requires
