@@ -1,5 +1,5 @@
 -- What the writer's tests say of its fields, and the frames of allowed fields as the profile writes them. Assumes nothing.
-use Prim.Native.Nat.{ℕ, _*_, _/_, _%_, _≤_}
+use Prim.Native.Nat.{ℕ, _+_, _*_, _/_, _%_, _≤_, _<_}
 use mathlib.Core.Path.{_≡_, refl, _∙_}
 use mathlib.Core.List.{_∷_, _++_}
 use mathlib.Core.Option.{Option, none, some}
@@ -10,12 +10,14 @@ use lib.ListN.{length}
 use lib.Seq.{take-all}
 use Rattle.profile.specs.Bytes.{Bytes, word-bytes, from1to, joined, pieces}
 use Rattle.profile.specs.Sizes.{mostPayload, hashSize, mostHashes, writerFields}
-use Rattle.profile.specs.Frame.{Kind, Install, List', kindOf, frame}
-use Rattle.profile.specs.Request.{writeBody, writeRequest}
-use Rattle.profile.specs.Device.{Fields, wholeHashes, noNew, noRoom, noLimit, requestOf, Written, put, writeKind, write}
+use Rattle.profile.specs.Slot.{countHolds}
+use Rattle.profile.specs.Frame.{Kind, Install, Enable, List', kindOf, frame}
+use Rattle.profile.specs.Request.{secondByte, writeBody, writeRequest}
+use Rattle.profile.specs.Device.{Fields, wholeHashes, noNew, noKey, noRoom, noLimit, noHashes, noPayload, countSays, requestOf, Written, put, writeKind, write}
 use borrow.Author.Tests.{not-true, not-false}
 use Rattle.profile.proofs.Logic.{and-parts, eqb-eq, leb-le, from-1-to-says}
 use Rattle.profile.proofs.Strings.{length-pieces, joined-pieces}
+use Rattle.profile.proofs.Counts.{bit-again, number-again}
 use Rattle.request_writer.specs.declared.given.Plain.{Plain}
 use Rattle.request_writer.specs.Writing.{fieldsOf, kindAllows, wrote, rightBody}
 
@@ -28,19 +30,43 @@ hashes-few s b e =
 hashes-joined : (s : Bytes) → length s % hashSize ≡ 0 → joined (pieces hashSize (length s / hashSize) s) ≡ s
 hashes-joined s e = joined-pieces hashSize (length s / hashSize) s ∙ take-all (hashSize * (length s / hashSize)) s (omega arith)
 
--- ---- the payload of kind 2
-pub payload-short : (f : Fields) (w : Bool) (kind : ℕ) → kind ≡ 2 → (w && kindAllows (kindOf kind) f) ≡ true → length (f .payload) ≤ mostPayload
-payload-short f w kind k e =
-    let p = and-parts w (kindAllows (kindOf 2) f) (rw k at e) .1 in
-    from-1-to-says mostPayload (length (f .payload)) (and-parts (noNew f && noRoom f && noLimit f) (from1to mostPayload (length (f .payload))) p .1) .1
+-- ---- the payload of kind 2, and the count of kinds 2 and 5
+module _ (f : Fields) (w : Bool) (kind : ℕ) where
+  pub payload-short : kind ≡ 2 → (w && kindAllows (kindOf kind) f) ≡ true → length (f .payload) ≤ mostPayload
+  payload-short k e =
+      let p = and-parts w (kindAllows (kindOf 2) f) (rw k at e) .1 in
+      from-1-to-says mostPayload (length (f .payload)) (and-parts (noNew f && noRoom f && noLimit f && countSays f) (from1to mostPayload (length (f .payload))) p .1) .1
 
--- ---- the frames of kinds 2 and 8, whose hashes the profile has piece by piece
-module _ (p : Plain) (x w d : Bytes) {o : Written} (whole : length x % hashSize ≡ 0) where
-  pub right-put : o ≡ put (frame 2 128 (rightBody p (length x / hashSize) x w)) d → o ≡ put (frame 2 128 (writeBody (requestOf Install (fieldsOf p x w)))) d
-  right-put e = rw (length-pieces hashSize (length x / hashSize) x, hashes-joined x whole) e
+  says : countSays f ≡ true → (f .kept < 2) × (countHolds (f .kept) (f .count) ≡ true)
+  says e =
+      let p = and-parts (leb (f .kept) 1) (countHolds (f .kept) (f .count)) e in
+      (omega (arith, leb-le (f .kept) 1 (p .0)), p .1)
 
-  pub list-put : o ≡ put (frame 8 128 (word-bytes (p .limit) ++ ((length x / hashSize) ∷ x))) d → o ≡ put (frame 8 128 (writeBody (requestOf List' (fieldsOf p x w)))) d
-  list-put e = rw (length-pieces hashSize (length x / hashSize) x, hashes-joined x whole) e
+  pub install-says : kind ≡ 2 → (w && kindAllows (kindOf kind) f) ≡ true → (f .kept < 2) × (countHolds (f .kept) (f .count) ≡ true)
+  install-says k e =
+      let p = and-parts w (kindAllows (kindOf 2) f) (rw k at e) .1 in
+      let q = and-parts (noNew f && noRoom f && noLimit f && countSays f) (from1to mostPayload (length (f .payload))) p .0 in
+      says (and-parts (noNew f && noRoom f && noLimit f) (countSays f) q .1)
+
+  pub enable-says : kind ≡ 5 → (w && kindAllows (kindOf kind) f) ≡ true → (f .kept < 2) × (countHolds (f .kept) (f .count) ≡ true)
+  enable-says k e =
+      let p = and-parts w (kindAllows (kindOf 5) f) (rw k at e) .1 in
+      says (and-parts (noNew f && noKey f && noRoom f && noLimit f && noHashes f && noPayload f) (countSays f) p .1)
+
+-- ---- the frames of kinds 2 and 5, whose count the profile has as a case, and of kinds 2 and 8, whose hashes it has piece by piece
+module _ (p : Plain) (x w d : Bytes) {o : Written} where
+  module _ (said : (p .kept < 2) × (countHolds (p .kept) (p .count) ≡ true)) where
+    pub enable-put : o ≡ put (frame 5 (128 + 64 * p .kept) (p .handle ++ word-bytes (p .count))) d
+        → o ≡ put (frame 5 (secondByte (requestOf Enable (fieldsOf p x w))) (writeBody (requestOf Enable (fieldsOf p x w)))) d
+    enable-put e = rw (bit-again (p .kept) (p .count) (said .0), number-again (p .kept) (p .count) (said .1)) e
+
+    pub right-put : length x % hashSize ≡ 0 → o ≡ put (frame 2 (128 + 64 * p .kept) (rightBody p (length x / hashSize) x w)) d
+        → o ≡ put (frame 2 (secondByte (requestOf Install (fieldsOf p x w))) (writeBody (requestOf Install (fieldsOf p x w)))) d
+    right-put whole e =
+        rw (bit-again (p .kept) (p .count) (said .0), number-again (p .kept) (p .count) (said .1), length-pieces hashSize (length x / hashSize) x, hashes-joined x whole) e
+
+  pub list-put : length x % hashSize ≡ 0 → o ≡ put (frame 8 128 (word-bytes (p .limit) ++ ((length x / hashSize) ∷ x))) d → o ≡ put (frame 8 128 (writeBody (requestOf List' (fieldsOf p x w)))) d
+  list-put whole e = rw (length-pieces hashSize (length x / hashSize) x, hashes-joined x whole) e
 
 -- ---- allowed fields are written, and others refused
 pub kind-writes : (k : Kind) (f : Fields) (kind : ℕ) (d : Bytes) {o : Written} → kindOf kind ≡ some k → (wholeHashes (f .hashes) && kindAllows (kindOf kind) f) ≡ true

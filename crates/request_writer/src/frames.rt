@@ -1,14 +1,13 @@
 // Requests written part by part (PROFILE 3.1 and 3.3): 201 where the buffer is shorter than the frame, and else the frame, with the
-// verdict 1. The rest of the buffer stays as found.
+// verdict 1 and the bit of its count, `kept`. The rest of the buffer stays as found.
 use crate::given::Plain;
-use profile::Count;
 use profile::number::DONE;
 use profile::number::WRITER_BUFFER_SHORT;
 use profile::sizes::HANDLE_BYTES;
 use profile::sizes::KEY_BYTES;
 ghost use mathlib.Core.Path.{_≡_};
 ghost use mathlib.Core.List.{_∷_, [], _++_};
-ghost use Prim.Native.Nat.{_≤_, _<_};
+ghost use Prim.Native.Nat.{_+_, _*_, _≤_, _<_};
 ghost use lib.ListN.{length};
 ghost use Rattle.buffers.specs.Over.{overAt};
 ghost use Rattle.profile.specs.Bytes.{word-bytes};
@@ -22,21 +21,21 @@ const HANDLE_LENGTH: u16 = HANDLE_BYTES as u16;
 
 const HANDLES_LENGTH: u16 = 2 * HANDLE_LENGTH;
 
-// The head of a body of n bytes, with the verdict 1 above seven zero bits.
-fn request_head(kind: u8, n: u16) -> [u8; 4]
-    requires { ⌜ kind < 32 ⌝ }
-    ensures { λ r. ⌜ r ≡ started kind n [] ⌝ }
+// The head of a body of n bytes: the verdict 1, the bit of a count, which is 0 for a kind that sends none, and six zero bits.
+fn request_head(kind: u8, kept: u8, n: u16) -> [u8; 4]
+    requires { ⌜ (kind < 32) × (kept < 2) ⌝ }
+    ensures { λ r. ⌜ r ≡ started kind kept n [] ⌝ }
 {
-    let verdict = bits::fields::flag_byte(true);
-    buffers::frame_start(kind, verdict, n)
+    let second = bits::fields::request_second(kept);
+    buffers::frame_start(kind, second, n)
 }
 
 // The head of a body of n bytes, and the handle that stands first in it.
-fn put_handle(out: &mut [u8], kind: u8, n: u16, handle: [u8; HANDLE_BYTES])
-    requires { ⌜ (kind < 32) × (14 ≤ length (now out)) ⌝ }
-    ensures { λ _. ⌜ now (out .exit) ≡ overAt 0 (started kind n handle) (now (out .entry)) ⌝ }
+fn put_handle(out: &mut [u8], kind: u8, kept: u8, n: u16, handle: [u8; HANDLE_BYTES])
+    requires { ⌜ (kind < 32) × ((kept < 2) × (14 ≤ length (now out))) ⌝ }
+    ensures { λ _. ⌜ now (out .exit) ≡ overAt 0 (started kind kept n handle) (now (out .entry)) ⌝ }
 {
-    let head = request_head(kind, n);
+    let head = request_head(kind, kept, n);
     buffers::put_bytes(out, 0, &head);
     buffers::put_bytes(out, 4, &handle);
 }
@@ -58,7 +57,7 @@ pub fn write_one(out: &mut [u8], kind: u8, handle: [u8; HANDLE_BYTES]) -> u16
     if out.len() < 14 {
         return WRITER_BUFFER_SHORT;
     }
-    put_handle(out, kind, HANDLE_LENGTH, handle);
+    put_handle(out, kind, 0, HANDLE_LENGTH, handle);
     DONE
 }
 
@@ -75,20 +74,20 @@ pub fn write_two(
     if out.len() < 24 {
         return WRITER_BUFFER_SHORT;
     }
-    put_handle(out, kind, HANDLES_LENGTH, handle);
+    put_handle(out, kind, 0, HANDLES_LENGTH, handle);
     buffers::put_bytes(out, 14, &new);
     DONE
 }
 
-// Kinds 1 and 5: a handle, and a length or a count.
-pub fn write_word(out: &mut [u8], kind: u8, handle: [u8; HANDLE_BYTES], word: u16) -> u16
-    requires { ⌜ kind < 32 ⌝ }
-    ensures { λ r. ⌜ wrote r (now (out .exit)) ≡ put (frame kind 128 (handle ++ word-bytes word)) (now (out .entry)) ⌝ }
+// Kinds 1 and 5: a handle, and a length or the number of a count.
+pub fn write_word(out: &mut [u8], kind: u8, kept: u8, handle: [u8; HANDLE_BYTES], word: u16) -> u16
+    requires { ⌜ (kind < 32) × (kept < 2) ⌝ }
+    ensures { λ r. ⌜ wrote r (now (out .exit)) ≡ put (frame kind (128 + 64 * kept) (handle ++ word-bytes word)) (now (out .entry)) ⌝ }
 {
     if out.len() < 16 {
         return WRITER_BUFFER_SHORT;
     }
-    put_handle(out, kind, 12, handle);
+    put_handle(out, kind, kept, 12, handle);
     buffers::put_word(out, 14, word);
     DONE
 }
@@ -102,7 +101,7 @@ pub fn write_hashes(out: &mut [u8], limit: u16, n: u8, hashes: &[u8]) -> u16
     if out.len() < 4 + size {
         return WRITER_BUFFER_SHORT;
     }
-    let head = request_head(8, size as u16);
+    let head = request_head(8, 0, size as u16);
     buffers::put_bytes(out, 0, &head);
     let three = counted(limit, n);
     buffers::put_bytes(out, 4, &three);
@@ -110,19 +109,20 @@ pub fn write_hashes(out: &mut [u8], limit: u16, n: u8, hashes: &[u8]) -> u16
     DONE
 }
 
-// Handle, key, count and hash count of kind 2, in front of its hashes; n is the byte of the hash count.
+// Handle, key, the number of the count and hash count of kind 2, in front of its hashes; n is the byte of the hash count.
 fn put_right(
     out: &mut [u8],
+    kept: u8,
     size: u16,
     handle: [u8; HANDLE_BYTES],
     key: [u8; KEY_BYTES],
-    count: Count,
+    count: u16,
     n: u8,
 )
-    requires { ⌜ 33 ≤ length (now out) ⌝ }
-    ensures { λ _. ⌜ now (out .exit) ≡ overAt 0 (started 2 size (handle ++ key ++ (word-bytes count ++ (n ∷ [])))) (now (out .entry)) ⌝ }
+    requires { ⌜ (kept < 2) × (33 ≤ length (now out)) ⌝ }
+    ensures { λ _. ⌜ now (out .exit) ≡ overAt 0 (started 2 kept size (handle ++ key ++ (word-bytes count ++ (n ∷ [])))) (now (out .entry)) ⌝ }
 {
-    put_handle(out, 2, size, handle);
+    put_handle(out, 2, kept, size, handle);
     buffers::put_bytes(out, 14, &key);
     let three = counted(count, n);
     buffers::put_bytes(out, 30, &three);
@@ -130,8 +130,8 @@ fn put_right(
 
 // Kind 2: a handle, a key, a count, the hash count n above four zero bits, the hashes and the payload.
 pub fn write_right(out: &mut [u8], p: Plain, n: u8, hashes: &[u8], payload: &[u8]) -> u16
-    requires { ⌜ (n < 16) × ((length (now hashes) ≤ hashRoom) × (length (now payload) ≤ mostPayload)) ⌝ }
-    ensures { λ r. ⌜ wrote r (now (out .exit)) ≡ put (frame 2 128 (rightBody p n (now (hashes .entry)) (now (payload .entry)))) (now (out .entry)) ⌝ }
+    requires { ⌜ (p .kept < 2) × ((n < 16) × ((length (now hashes) ≤ hashRoom) × (length (now payload) ≤ mostPayload))) ⌝ }
+    ensures { λ r. ⌜ wrote r (now (out .exit)) ≡ put (frame 2 (128 + 64 * p .kept) (rightBody p n (now (hashes .entry)) (now (payload .entry)))) (now (out .entry)) ⌝ }
 {
     let after = 33 + hashes.len();
     let end = after + payload.len();
@@ -142,6 +142,7 @@ pub fn write_right(out: &mut [u8], p: Plain, n: u8, hashes: &[u8], payload: &[u8
     let key = p.key;
     put_right(
         out,
+        p.kept,
         (end - 4) as u16,
         handle,
         key,

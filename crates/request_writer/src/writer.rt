@@ -17,11 +17,11 @@ fn write_kind(kind: u8, p: Plain, hashes: &[u8], payload: &[u8], out: &mut [u8])
     let new = p.new;
     let n = (hashes.len() / HASH_BYTES) as u8;
     match kind {
-        1 => crate::frames::write_word(out, 1, handle, p.room),
+        1 => crate::frames::write_word(out, 1, 0, handle, p.room),
         2 => crate::frames::write_right(out, p, n, hashes, payload),
         3 => crate::frames::write_two(out, 3, handle, new),
         4 => crate::frames::write_two(out, 4, handle, new),
-        5 => crate::frames::write_word(out, 5, handle, p.count),
+        5 => crate::frames::write_word(out, 5, p.kept, handle, p.count),
         6 => crate::frames::write_one(out, 6, handle),
         7 => crate::frames::write_one(out, 7, handle),
         8 => crate::frames::write_hashes(out, p.limit, n, hashes),
@@ -30,8 +30,8 @@ fn write_kind(kind: u8, p: Plain, hashes: &[u8], payload: &[u8], out: &mut [u8])
     }
 }
 
-// A kind and fields, written as a request with the verdict 1. It is refused with 202 for its kind or fields, and then with 201 where the
-// buffer is shorter than the frame.
+// A kind and fields, written as a request with the verdict 1 and the bit of its count. It is refused with 202 for its kind or fields, and
+// then with 201 where the buffer is shorter than the frame.
 pub fn write_request(kind: u8, p: Plain, hashes: &[u8], payload: &[u8], out: &mut [u8]) -> u16
     ensures { λ r. ⌜ wrote r (now (out .exit)) ≡ write kind (fieldsOf p (now (hashes .entry)) (now (payload .entry))) (now (out .entry)) ⌝ }
 {

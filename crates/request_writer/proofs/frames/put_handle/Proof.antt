@@ -28,9 +28,9 @@ put-bytes-requires-2 c κs = search needs
 same-length : tie.Need-same-length
 same-length c = search needs
 
-room : (s : tie.Start) → 4 + length (s .args .t4) ≤ length (now (s .args .out))
+room : (s : tie.Start) → 4 + length (s .args .t5) ≤ length (now (s .args .out))
 room s =
-    let h : length (s .args .t4) ≡ handleSize = search needs in
+    let h : length (s .args .t5) ≡ handleSize = search needs in
     omega arith
 
 returns : tie.Need-returns
@@ -40,7 +40,7 @@ returns c =
     let made = headed .before .before .before in
     let start = made .before .before in
     let a = start .args in
-    head-then (a .kind) (a .n) (a .t4) (now (a .out)) (room start) (made .request-head .ensures) (headed .put-bytes .ensures) (last .put-bytes2 .ensures)
+    head-then (a .kind) (a .kept) (a .n) (a .t5) (now (a .out)) (room start) (made .request-head .ensures) (headed .put-bytes .ensures) (last .put-bytes2 .ensures)
 
 pub put-handle-spec : {M : Type 1} → statement M
 put-handle-spec =

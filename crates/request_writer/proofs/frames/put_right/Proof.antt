@@ -29,7 +29,7 @@ put-bytes-requires-2 c κs = search needs
 same-length : tie.Need-same-length
 same-length c = search needs
 
-sized : (s : tie.Start) → (length (s .args .handle) ≡ handleSize) × (length (s .args .t4) ≡ keySize)
+sized : (s : tie.Start) → (length (s .args .handle) ≡ handleSize) × (length (s .args .t5) ≡ keySize)
 sized s = (search needs, search needs)
 
 returns : tie.Need-returns
@@ -40,7 +40,7 @@ returns c =
     let put = keyed .before .before .before .before .before in
     let start = put .before .before .before in
     let a = start .args in
-    front-written (a .size) (a .handle) (a .t4) (a .count) (a .n) (now (a .out)) (sized start .0) (sized start .1) (start .pre)
+    front-written (a .kept) (a .size) (a .handle) (a .t5) (a .count) (a .n) (now (a .out)) (sized start .0) (sized start .1) (start .pre .1)
     (put .put-handle .ensures) (keyed .put-bytes .ensures) (made .counted .ensures) (last .put-bytes2 .ensures)
 
 pub put-right-spec : {M : Type 1} → statement M

@@ -9,7 +9,7 @@ use Rattle.request_writer.proofs.frames.write_two.Tie as tie
 returns : tie.Need-returns
 returns c =
     let a = c .before .before .args in
-    two-short (a .kind) (a .handle) (a .t4) (now (a .out)) 10 (search needs) (search needs) (omega arith)
+    two-short (a .kind) 0 (a .handle) (a .t4) (now (a .out)) 10 (search needs) (search needs) (omega arith)
 
 put-handle-requires : tie.Need-put-handle-requires
 put-handle-requires c κs = search needs
@@ -28,7 +28,7 @@ returns-2 c =
     let last = c .before .before in
     let put = last .before .before .before .before .before in
     let a = put .before .before .before .before .args in
-    two-whole (a .kind) (a .handle) (a .t4) (now (a .out)) 10 (search needs) (search needs) (omega arith) (put .put-handle .ensures) (last .put-bytes .ensures)
+    two-whole (a .kind) 0 (a .handle) (a .t4) (now (a .out)) 10 (search needs) (search needs) (omega arith) (put .put-handle .ensures) (last .put-bytes .ensures)
 
 pub write-two-spec : {M : Type 1} → statement M
 write-two-spec =

@@ -11,7 +11,7 @@ use Rattle.request_writer.proofs.frames.write_word.Tie as tie
 returns : tie.Need-returns
 returns c =
     let a = c .before .before .args in
-    two-short (a .kind) (a .handle) (word-bytes (a .word)) (now (a .out)) 2 (search needs) refl (omega arith)
+    two-short (a .kind) (a .kept) (a .handle) (word-bytes (a .word)) (now (a .out)) 2 (search needs) refl (omega arith)
 
 put-handle-requires : tie.Need-put-handle-requires
 put-handle-requires c κs = search needs
@@ -27,7 +27,7 @@ returns-2 c =
     let last = c .before .before in
     let put = last .before .before .before .before in
     let a = put .before .before .before .before .args in
-    two-whole (a .kind) (a .handle) (word-bytes (a .word)) (now (a .out)) 2 (search needs) refl (omega arith) (put .put-handle .ensures) (last .put-word .ensures)
+    two-whole (a .kind) (a .kept) (a .handle) (word-bytes (a .word)) (now (a .out)) 2 (search needs) refl (omega arith) (put .put-handle .ensures) (last .put-word .ensures)
 
 pub write-word-spec : {M : Type 1} → statement M
 write-word-spec =

@@ -23,6 +23,9 @@ empty-requires-2 c κs = search needs
 payload-fits-requires : tie.Need-payload-fits-requires
 payload-fits-requires c κs = search needs
 
+count-says-requires : tie.Need-count-says-requires
+count-says-requires c κs = search needs
+
 returns : tie.Need-returns
 returns c = rw (c .match .keys1) (cc)
 
@@ -63,6 +66,7 @@ kind-allows-spec =
     empty-requires
     empty-requires-2
     payload-fits-requires
+    count-says-requires
     returns
     returns-2
     returns-3

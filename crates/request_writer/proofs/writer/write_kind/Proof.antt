@@ -1,17 +1,19 @@
 -- `request_writer::writer::write_kind` meets its contract, kind by kind. Assumes nothing.
 use mathlib.Core.Path.{_≡_, refl, ap}
 use mathlib.Core.Option.{some}
-use Prim.Native.Nat.{_/_, _%_, _≤_}
+use mathlib.Core.Bool.{true}
+use Prim.Native.Nat.{_/_, _%_, _≤_, _<_}
 use native.Mathlib.Omega.{arith}
 use lib.ListN.{length}
 use denote.Ref.{now}
 use Rattle.profile.specs.Sizes.{hashSize, mostHashes}
+use Rattle.profile.specs.Slot.{countHolds}
 use Rattle.profile.specs.Frame.{Kind, Setup, Install, Retrieve, Rek, Enable, Remove, Cancel, List', Info, kindOf, frame}
 use Rattle.profile.specs.Request.{Request, numberOf, secondByte, writeBody, writeRequest}
 use Rattle.profile.specs.Device.{Fields, wholeHashes, requestOf, Written, put, writeKind}
 use Rattle.request_writer.specs.Writing.{fieldsOf, kindAllows}
 use Rattle.request_reader.proofs.Choices.{no-kind}
-use Rattle.request_writer.proofs.Allowed.{hashes-few, payload-short, right-put, list-put, kind-writes}
+use Rattle.request_writer.proofs.Allowed.{hashes-few, payload-short, install-says, enable-says, enable-put, right-put, list-put, kind-writes}
 use borrow.Author.Needs.{needs}
 use Rattle.request_writer.proofs.writer.write_kind.Statement.{statement}
 use Rattle.request_writer.proofs.writer.write_kind.Tie as tie
@@ -35,6 +37,13 @@ module _ (m : tie.After-new) (k : Kind) where
   unfolding writeRequest
   writes e p = kind-writes k (given (start m)) (start m .args .kind) (now (start m .args .out)) e (start m .pre) p
 
+-- the count of kinds 2 and 5
+said-2 : (s : tie.Start) → s .args .kind ≡ 2 → (s .args .p .kept < 2) × (countHolds (s .args .p .kept) (s .args .p .count) ≡ true)
+said-2 s k = install-says (given s) (wholeHashes (now (s .args .hashes))) (s .args .kind) k (s .pre)
+
+said-5 : (s : tie.Start) → s .args .kind ≡ 5 → (s .args .p .kept < 2) × (countHolds (s .args .p .kept) (s .args .p .count) ≡ true)
+said-5 s k = enable-says (given s) (wholeHashes (now (s .args .hashes))) (s .args .kind) k (s .pre)
+
 cast-n : tie.Need-cast-n
 cast-n c = omega (arith, few (start c))
 
@@ -44,7 +53,7 @@ write-word-requires c κs = search needs
 write-right-requires : tie.Need-write-right-requires
 write-right-requires c κs =
     let s = start (c .before .before) in
-    omega (arith, few s, payload-short (given s) (wholeHashes (now (s .args .hashes))) (s .args .kind) (c .before .match .keys2) (s .pre))
+    omega (arith, few s, said-2 s (c .before .match .keys2) .0, payload-short (given s) (wholeHashes (now (s .args .hashes))) (s .args .kind) (c .before .match .keys2) (s .pre))
 
 write-two-requires : tie.Need-write-two-requires
 write-two-requires c κs = search needs
@@ -53,7 +62,7 @@ write-two-requires-2 : tie.Need-write-two-requires-2
 write-two-requires-2 c κs = search needs
 
 write-word-requires-2 : tie.Need-write-word-requires-2
-write-word-requires-2 c κs = search needs
+write-word-requires-2 c κs = omega (arith, said-5 (start (c .before .before)) (c .before .match .keys5) .0)
 
 write-one-requires : tie.Need-write-one-requires
 write-one-requires c κs = search needs
@@ -85,7 +94,7 @@ returns-2 c =
     let arm = done .before .before in
     let s = start (arm .before) in
     let a = s .args in
-    writes (arm .before) Install (ap kindOf (arm .match .keys2)) (right-put (a .p) (now (a .hashes)) (now (a .payload)) (now (a .out)) (few s .0) (done .write-right .ensures))
+    writes (arm .before) Install (ap kindOf (arm .match .keys2)) (right-put (a .p) (now (a .hashes)) (now (a .payload)) (now (a .out)) (said-2 s (arm .match .keys2)) (few s .0) (done .write-right .ensures))
 
 same-length-3 : tie.Need-same-length-3
 same-length-3 c = search needs
@@ -112,7 +121,9 @@ returns-5 : tie.Need-returns-5
 returns-5 c =
     let done = c .before .before in
     let arm = done .before .before in
-    writes (arm .before) Enable (ap kindOf (arm .match .keys5)) (done .write-word2 .ensures)
+    let s = start (arm .before) in
+    let a = s .args in
+    writes (arm .before) Enable (ap kindOf (arm .match .keys5)) (enable-put (a .p) (now (a .hashes)) (now (a .payload)) (now (a .out)) (said-5 s (arm .match .keys5)) (done .write-word2 .ensures))
 
 same-length-6 : tie.Need-same-length-6
 same-length-6 c = search needs
