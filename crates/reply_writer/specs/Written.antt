@@ -8,7 +8,7 @@ use Rattle.profile.specs.Agent.{Given, counted}
 
 -- the four bytes in front of a body of n bytes (PROFILE 3.2)
 abbrev pub headOf : ℕ → ℕ → ℕ → Bytes
-headOf kind status n = frameHead kind ∷ status ∷ word-bytes n
+headOf kind second n = frameHead kind ∷ second ∷ word-bytes n
 
 -- the count and the payload
 abbrev pub infoOf : Right → Given

@@ -11,11 +11,14 @@ shared-slice-read-slot-hashes c = search needs
 slot-hashes-requires : tie.Need-slot-hashes-requires
 slot-hashes-requires c κs = search needs
 
+success-of-requires : tie.Need-success-of-requires
+success-of-requires c κs = search needs
+
+count-in-requires : tie.Need-count-in-requires
+count-in-requires c κs = search needs
+
 word-at-requires : tie.Need-word-at-requires
 word-at-requires c κs = search needs
-
-word-at-requires-2 : tie.Need-word-at-requires-2
-word-at-requires-2 c κs = search needs
 
 cast-size : tie.Need-cast-size
 cast-size c = search needs
@@ -72,11 +75,12 @@ returns c =
     let headed = keyed .before .before .before .before in
     let long = headed .before .before in
     let counted = long .before in
-    let many = counted .before in
+    let second = counted .before in
+    let many = second .before in
     let start = many .before .before .before .before in
     let a = start .args in
     right-steps (now (a .slot)) (now (a .reply)) (start .pre .1) (start .pre .3) (start .pre .2)
-    (many .slot-hashes .ensures) (counted .word-at .ensures) (long .word-at2 .ensures) (made .right-head .ensures)
+    (many .slot-hashes .ensures) (second .success-of .ensures) (counted .count-in .ensures) (long .word-at .ensures) (made .right-head .ensures)
     (headed .put-head .ensures) (keyed .put-key .ensures) (fronted .put-bytes .ensures) (hashed .put-part .ensures) (last .put-part2 .ensures) (start .pre .0)
 
 pub reply-right-spec : {M : Type 1} → statement M
@@ -85,8 +89,9 @@ reply-right-spec =
     (tie.spec
     shared-slice-read-slot-hashes
     slot-hashes-requires
+    success-of-requires
+    count-in-requires
     word-at-requires
-    word-at-requires-2
     cast-size
     mul-size
     add-put-head
