@@ -8,19 +8,19 @@ use native.Mathlib.Omega.{arith}
 use lib.Dec.{eqb}
 use lib.ListN.{length, drop, length-drop}
 use lib.Seq.{drop-drop, take-all}
-use Rattle.profile.specs.Bytes.{Bytes, if_then_else_, byte, part, word, pieces}
+use Rattle.profile.specs.Bytes.{Bytes, if_then_else_, byte, part, pieces}
 use Rattle.profile.specs.Sizes.{handleSize, keySize, hashSize}
-use Rattle.profile.specs.Slot.{Count}
-use Rattle.profile.specs.Frame.{Kind, Setup, Install, Retrieve, Rek, Enable, Remove, Cancel, List', Info, kindOf, isStatus, isFrame, versionHolds, kindNumber, body, statusIn, hashCountAt18}
+use Rattle.profile.specs.Slot.{Count, countWith}
+use Rattle.profile.specs.Frame.{Kind, Setup, Install, Retrieve, Rek, Enable, Remove, Cancel, List', Info, kindOf, isStatus, isFrame, versionHolds, kindNumber, body, keptIn, statusIn, hashCountAt18}
 use Rattle.profile.specs.Request.{numberOf, fields}
 use Rattle.profile.specs.Agent.{Given, nothing, theRight, theKey, handles, counted}
-use Rattle.profile.specs.Device.{none?, shaped, given, gave, readSuccess, readReply}
+use Rattle.profile.specs.Device.{none?, bitAllowed, shaped, countGiven, given, gave, readSuccess, readReply}
 use Rattle.profile.proofs.Requests.{kind-number}
 use Rattle.reply_reader.specs.declared.answer.Answer.{Answer}
 use Rattle.reply_reader.specs.declared.answer.Answer.the-variants.{Malformed, Failed, Nothing, Right, Key, Handles, Counted}
 use Rattle.reply_reader.specs.declared.answer.Told.{Told}
-use Rattle.reply_reader.specs.Told.{number, meant, meaning, refusal, keyless, payloadFrom, rightIn, keyIn, listIn, infoIn, toldShaped, toldSuccess, told, Reads}
-use Rattle.reply_reader.proofs.Shapes.{body-byte, eqb-same, key-room, list-room}
+use Rattle.reply_reader.specs.Told.{number, meant, meaning, refusal, keyless, countFrom, payloadFrom, rightIn, keyIn, listIn, infoIn, toldShaped, toldSuccess, told, Reads}
+use Rattle.reply_reader.proofs.Shapes.{body-byte, body-word, eqb-same, key-room, list-room}
 
 if-map : {A B : Type 0} (g : A → B) (b : Bool) {x y : A} {u v : B} → (b ≡ true → g x ≡ u) → (b ≡ false → g y ≡ v) → g (if b then x else y) ≡ (if b then u else v)
 if-map g true p q = p refl
@@ -31,19 +31,16 @@ module _ (f : Bytes) where
   body-drop : (n : ℕ) → drop n (body f) ≡ drop (4 + n) f
   body-drop n = drop-drop n 4 f
 
-  body-word : (at : ℕ) → word at (body f) ≡ 256 * byte (4 + at) f + byte (4 + (at + 1)) f
-  body-word at = ap₂ (λ (a b : ℕ). 256 * a + b) (body-byte f at) (body-byte f (at + 1))
-
   to-the-end : (at : ℕ) → part at (length f - at) f ≡ drop at f
   to-the-end at = take-all (length f - at) (drop at f) (rw (length-drop at f) (omega arith))
 
   -- ---- kind by kind
-  right-given : theRight (record { key = part 4 keySize f; count = word 20 f; hashes = pieces hashSize (byte 22 f / 16) (drop 23 f); payload = part (payloadFrom f) (length f - payloadFrom f) f })
+  right-given : theRight (record { key = part 4 keySize f; count = countFrom 20 f; hashes = pieces hashSize (byte 22 f / 16) (drop 23 f); payload = part (payloadFrom f) (length f - payloadFrom f) f })
       ≡ given Retrieve f
   right-given = λ i. theRight (record { key = part 4 keySize f; count = count-is i; hashes = hashes-are i; payload = payload-is i })
     where
-      count-is : word 20 f ≡ word 16 (body f)
-      count-is = sym (body-word 16)
+      count-is : countFrom 20 f ≡ countGiven keySize f
+      count-is = ap (countWith (keptIn f)) (sym (body-word f 16))
 
       hashes-are : pieces hashSize (byte 22 f / 16) (drop 23 f) ≡ pieces hashSize (hashCountAt18 (body f)) (drop 19 (body f))
       hashes-are = sym (rw (body-byte f 18, body-drop 19))
@@ -72,8 +69,8 @@ module _ (f : Bytes) where
       list : pieces handleSize ((length (body f) - 1) / handleSize) (drop 1 (body f)) ≡ pieces handleSize ((length f - 5) / handleSize) (drop 5 f)
       list = rw (size, body-drop 1)
 
-  info-given : counted (word 4 f) (part 6 (length f - 6) f) ≡ given Info f
-  info-given = ap₂ (λ (a : Count) (b : Bytes). counted a b) (sym (body-word 0)) (to-the-end 6 ∙ sym (body-drop 2))
+  info-given : counted (countFrom 4 f) (part 6 (length f - 6) f) ≡ given Info f
+  info-given = ap₂ (λ (a : Count) (b : Bytes). counted a b) (ap (countWith (keptIn f)) (sym (body-word f 0))) (to-the-end 6 ∙ sym (body-drop 2))
 
   of-kind : (k : Kind) → numberOf (fields k f) ≡ kindNumber f → shaped k f ≡ true → meaning f (toldShaped k f) ≡ gave (kindNumber f) (given k f)
   unfolding keyless rightIn keyIn listIn infoIn
@@ -97,6 +94,7 @@ module _ (f : Bytes) where
   unfolding told readReply keyless
   told-means =
       if-map (meaning f) (not (isFrame f && versionHolds f)) (λ _. refl) λ _.
+      if-map (meaning f) (not (bitAllowed f)) (λ _. refl) λ _.
       if-map (meaning f) (not (isStatus (statusIn f))) (λ _. refl) λ _.
       if-map (meaning f) (eqb (statusIn f) 0) (λ _. of-success (kindOf (kindNumber f)) refl) λ _.
       if-map (meaning f) (none? (body f)) (λ _. refl) (λ _. refl)

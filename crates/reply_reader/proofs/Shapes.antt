@@ -1,19 +1,20 @@
 -- The reader's tests on a whole frame, as the profile has them on its body. Assumes nothing.
 use mathlib.Core.Path.{_≡_, refl, sym, ap, ap₂, _∙_}
 use mathlib.Core.List.{[], _∷_}
-use mathlib.Core.Bool.{Bool, true, false, _&&_, and-assoc}
-use Prim.Native.Nat.{ℕ, suc, _+_, _-_, _*_, _/_, _%_, _≤_, _<_}
+use mathlib.Core.Bool.{Bool, true, false, _&&_, _||_}
+use Prim.Native.Nat.{ℕ, zero, suc, _+_, _-_, _*_, _/_, _%_, _≤_, _<_}
 use native.Mathlib.Omega.{arith}
 use lib.Dec.{eqb, leb, ltb}
 use lib.ListN.{length, length-drop}
 use lib.Seq.{getD-drop}
-use borrow.Author.Tests.{eqb-true, eqb-false, leb-true, leb-false, eq-eqb, ne-eqb, le-ltb, le-leb, lt-leb}
-use Rattle.profile.specs.Bytes.{Bytes, byte, word}
+use borrow.Author.Tests.{eqb-true, eqb-false, leb-true, leb-false, eq-eqb, ne-eqb, le-leb, lt-leb}
+use Rattle.profile.specs.Bytes.{Bytes, byte, word, from1to}
 use Rattle.profile.specs.Sizes.{mostSlots, mostPayload, handleSize, keySize, hashSize, mostHashes}
-use Rattle.profile.specs.Frame.{isFrame, versionHolds, body, rightFits, Retrieve, Rek, List', Info}
-use Rattle.profile.specs.Device.{none?, shaped}
+use Rattle.profile.specs.Slot.{Count, countHolds, countWith}
+use Rattle.profile.specs.Frame.{kindOf, isFrame, versionHolds, body, keptIn, rightFits, Retrieve, Rek, List', Info}
+use Rattle.profile.specs.Device.{none?, givesCount, shaped}
 use Rattle.profile.proofs.Logic.{and-parts}
-use Rattle.reply_reader.specs.Told.{payloadFrom}
+use Rattle.reply_reader.specs.Told.{countFrom, payloadFrom}
 
 -- ---- tests that say the same
 leb-same : (a b c d : ℕ) → (a ≤ b → c ≤ d) → (c ≤ d → a ≤ b) → leb a b ≡ leb c d
@@ -36,12 +37,39 @@ none-short : (s : Bytes) → none? s ≡ leb (length s) 0
 none-short [] = refl
 none-short (x ∷ s) = sym (lt-leb (suc (length s)) 0 (omega arith))
 
+-- the kinds that give a count, by number
+neither : (k : ℕ) → 9 < k → (eqb k 3 || eqb k 9) ≡ false
+neither k h = rw (ne-eqb k 3 (λ e. omega arith), ne-eqb k 9 (λ e. omega arith))
+
+pub gives-tests : (k : ℕ) → (eqb k 3 || eqb k 9) ≡ givesCount (kindOf k)
+gives-tests zero = refl
+gives-tests (suc zero) = refl
+gives-tests (suc (suc zero)) = refl
+gives-tests (suc (suc (suc zero))) = refl
+gives-tests (suc (suc (suc (suc zero)))) = refl
+gives-tests (suc (suc (suc (suc (suc zero))))) = refl
+gives-tests (suc (suc (suc (suc (suc (suc zero)))))) = refl
+gives-tests (suc (suc (suc (suc (suc (suc (suc zero))))))) = refl
+gives-tests (suc (suc (suc (suc (suc (suc (suc (suc zero)))))))) = refl
+gives-tests (suc (suc (suc (suc (suc (suc (suc (suc (suc zero))))))))) = refl
+gives-tests (suc (suc (suc (suc (suc (suc (suc (suc (suc (suc k)))))))))) = neither (suc (suc (suc (suc (suc (suc (suc (suc (suc (suc k)))))))))) (omega arith)
+
 module _ (f : Bytes) where
   body-length : length (body f) ≡ length f - 4
   body-length = length-drop 4 f
 
   pub body-byte : (i : ℕ) → byte i (body f) ≡ byte (4 + i) f
   body-byte i = getD-drop 4 f i 0
+
+  pub body-word : (at : ℕ) → word at (body f) ≡ 256 * byte (4 + at) f + byte (4 + (at + 1)) f
+  body-word at = ap₂ (λ (a b : ℕ). 256 * a + b) (body-byte at) (body-byte (at + 1))
+
+  -- the count at an offset, by its bit and its number: whether they say one, and which
+  pub says-read : (at : ℕ) {b n : ℕ} {h : Bool} → b ≡ keptIn f → n ≡ word at f → h ≡ countHolds b n → h ≡ countHolds (keptIn f) (word at f)
+  says-read at eb en e = e ∙ ap₂ countHolds eb en
+
+  pub count-read : (at : ℕ) {b n : ℕ} {c : Count} → b ≡ keptIn f → n ≡ word at f → c ≡ countWith b n → c ≡ countFrom at f
+  count-read at eb en e = e ∙ ap₂ countWith eb en
 
   -- ---- a frame
   pub frame-long : (isFrame f && versionHolds f) ≡ true → 4 ≤ length f
@@ -64,11 +92,9 @@ module _ (f : Bytes) where
   abbrev size : ℕ → ℕ
   size n = length f - 4 - (19 + hashSize * n)
 
-  pub right-tests : {n r : ℕ} → 24 ≤ length f → n ≡ byte 22 f / 16 → r ≡ byte 22 f % 16
-      → (leb n mostHashes && eqb r 0 && ltb (23 + hashSize * n) (length f) && leb (length f) (23 + hashSize * n + mostPayload)) ≡ shaped Retrieve f
-  right-tests {n} {r} h en er =
-      rw (body-length, body-byte 18, le-leb 20 (length f - 4) (omega arith), ← en, ← er, some, most)
-      (and-assoc (leb n mostHashes && eqb r 0) (ltb 0 (size n)) (leb (size n) mostPayload))
+  pub right-tests : {n r : ℕ} {b : Bool} → 24 ≤ length f → n ≡ byte 22 f / 16 → r ≡ byte 22 f % 16 → b ≡ countHolds (keptIn f) (word 20 f)
+      → (leb n mostHashes && eqb r 0 && (ltb (23 + hashSize * n) (length f) && leb (length f) (23 + hashSize * n + mostPayload)) && b) ≡ shaped Retrieve f
+  right-tests {n} {r} {b} h en er eb = rw (body-length, body-byte 18, body-word 16, le-leb 20 (length f - 4) (omega arith), ← en, ← er, ← eb, some, most)
     where
       some : ltb (23 + hashSize * n) (length f) ≡ ltb 0 (size n)
       some = leb-same (suc (23 + hashSize * n)) (length f) 1 (size n) (λ h. omega arith) (λ h. omega arith)
@@ -77,13 +103,21 @@ module _ (f : Bytes) where
       most = leb-same (length f) (23 + hashSize * n + mostPayload) (size n) mostPayload (λ h. omega arith) (λ h. omega arith)
 
   pub right-room : shaped Retrieve f ≡ true → (24 ≤ length f) × (payloadFrom f ≤ length f)
-  right-room e = (long, omega (arith, leb-true (suc (payloadFrom f)) (length f) (and-parts (leb (byte 22 f / 16) mostHashes && eqb (byte 22 f % 16) 0) (ltb (payloadFrom f) (length f)) (tests .0) .1)))
+  right-room e = (long, omega (arith, leb-true (suc (payloadFrom f)) (length f) (and-parts (ltb (payloadFrom f) (length f)) (leb (length f) (payloadFrom f + mostPayload)) sized .0)))
     where
-      long : 24 ≤ length f
-      long = omega (arith, body-length, leb-true 20 (length (body f)) (and-parts (leb 20 (length (body f))) (rightFits hashSize mostHashes (body f)) e .0))
+      fits : (leb 20 (length (body f)) && rightFits hashSize mostHashes (body f)) ≡ true
+      fits = and-parts (leb 20 (length (body f)) && rightFits hashSize mostHashes (body f)) (countHolds (keptIn f) (word keySize (body f))) e .0
 
-      tests : ((leb (byte 22 f / 16) mostHashes && eqb (byte 22 f % 16) 0 && ltb (payloadFrom f) (length f)) ≡ true) × (leb (length f) (payloadFrom f + mostPayload) ≡ true)
-      tests = and-parts (leb (byte 22 f / 16) mostHashes && eqb (byte 22 f % 16) 0 && ltb (payloadFrom f) (length f)) (leb (length f) (payloadFrom f + mostPayload)) (right-tests long refl refl ∙ e)
+      long : 24 ≤ length f
+      long = omega (arith, body-length, leb-true 20 (length (body f)) (and-parts (leb 20 (length (body f))) (rightFits hashSize mostHashes (body f)) fits .0))
+
+      few : Bool
+      few = leb (byte 22 f / 16) mostHashes && eqb (byte 22 f % 16) 0
+
+      sized : (ltb (payloadFrom f) (length f) && leb (length f) (payloadFrom f + mostPayload)) ≡ true
+      sized =
+          let size : Bool = ltb (payloadFrom f) (length f) && leb (length f) (payloadFrom f + mostPayload) in
+          and-parts few size (and-parts (few && size) (countHolds (keptIn f) (word 20 f)) (right-tests long refl refl refl ∙ e) .0) .1
 
   pub key-tests : eqb (length f) (4 + keySize) ≡ shaped Rek f
   key-tests = eqb-same (length f) (4 + keySize) (length (body f)) keySize (λ h. rw body-length (omega arith)) (λ h. omega (arith, body-length))
@@ -106,16 +140,19 @@ module _ (f : Bytes) where
       let r = and-parts (leb 1 (length (body f))) (eqb (byte 0 (body f) % 128) 0) (q .0) in
       (omega (arith, body-length, leb-true 1 (length (body f)) (r .0)), ap (λ (n : ℕ). n % 128) (sym (body-byte 0)) ∙ eqb-true (byte 0 (body f) % 128) 0 (r .1))
 
-  pub info-tests : (ltb 6 (length f) && leb (length f) (6 + mostPayload)) ≡ shaped Info f
-  info-tests = rw body-length (go (leb 2 (length f - 4)) refl)
+  pub info-short : length f < 6 → false ≡ shaped Info f
+  info-short h = rw (body-length, lt-leb 2 (length f - 4) (omega arith))
+
+  pub info-tests : {b : Bool} → 6 ≤ length f → b ≡ countHolds (keptIn f) (word 4 f) → (ltb 6 (length f) && leb (length f) (6 + mostPayload) && b) ≡ shaped Info f
+  info-tests h eb = rw (body-length, body-word 0, le-leb 2 (length f - 4) (omega arith), ← eb, some, most)
     where
-      go : (t : Bool) → leb 2 (length f - 4) ≡ t → (ltb 6 (length f) && leb (length f) (6 + mostPayload)) ≡ (t && (ltb 0 (length f - 4 - 2) && leb (length f - 4 - 2) mostPayload))
-      go true e =
-          let h : 2 ≤ length f - 4 = leb-true 2 (length f - 4) e in
-          ap₂ (λ (a b : Bool). a && b)
-          (leb-same 7 (length f) 1 (length f - 4 - 2) (λ h. omega arith) (λ h. omega arith))
-          (leb-same (length f) (6 + mostPayload) (length f - 4 - 2) mostPayload (λ h. omega arith) (λ h. omega arith))
-      go false e = rw (le-ltb 6 (length f) (omega (arith, leb-false 2 (length f - 4) e)))
+      some : ltb 6 (length f) ≡ ltb 0 (length f - 4 - 2)
+      some = leb-same 7 (length f) 1 (length f - 4 - 2) (λ h. omega arith) (λ h. omega arith)
+
+      most : leb (length f) (6 + mostPayload) ≡ leb (length f - 4 - 2) mostPayload
+      most = leb-same (length f) (6 + mostPayload) (length f - 4 - 2) mostPayload (λ h. omega arith) (λ h. omega arith)
 
   pub info-room : shaped Info f ≡ true → 6 ≤ length f
-  info-room e = omega (arith, leb-true 7 (length f) (and-parts (ltb 6 (length f)) (leb (length f) (6 + mostPayload)) (info-tests ∙ e) .0))
+  info-room e =
+      let fits = and-parts (leb 2 (length (body f)) && from1to mostPayload (length (body f) - 2)) (countHolds (keptIn f) (word 0 (body f))) e .0 in
+      omega (arith, body-length, leb-true 2 (length (body f)) (and-parts (leb 2 (length (body f))) (from1to mostPayload (length (body f) - 2)) fits .0))

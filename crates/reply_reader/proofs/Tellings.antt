@@ -2,14 +2,15 @@
 use mathlib.Core.Path.{_≡_, refl, sym, ap, _∙_}
 use mathlib.Core.List.{List, [], _∷_}
 use mathlib.Core.Option.{Option, none, some}
-use mathlib.Core.Bool.{Bool, true, false, _&&_, not}
+use mathlib.Core.Bool.{Bool, true, false, _&&_, _||_, not}
 use Prim.Native.Nat.{ℕ, zero, suc, _<_}
 use native.Mathlib.Omega.{arith}
+use lib.Dec.{eqb}
 use lib.ListN.{List·getD-eq-default}
 use borrow.Author.Tests.{eq-eqb, ne-eqb, not-true, not-false}
-use Rattle.profile.specs.Bytes.{Bytes}
-use Rattle.profile.specs.Frame.{Kind, Setup, Install, Retrieve, Rek, Enable, Remove, Cancel, List', Info, kindOf, isStatus, isFrame, versionHolds, kindNumber, body, statusIn}
-use Rattle.profile.specs.Device.{none?, shaped}
+use Rattle.profile.specs.Bytes.{Bytes, if_then_else_}
+use Rattle.profile.specs.Frame.{Kind, Setup, Install, Retrieve, Rek, Enable, Remove, Cancel, List', Info, kindOf, isStatus, isFrame, versionHolds, kindNumber, body, keptIn, statusIn}
+use Rattle.profile.specs.Device.{none?, givesCount, bitAllowed, shaped}
 use Rattle.reply_reader.specs.declared.answer.Answer.{Answer}
 use Rattle.reply_reader.specs.declared.answer.Answer.the-variants.{Failed}
 use Rattle.reply_reader.specs.declared.answer.Told.{Told}
@@ -58,21 +59,33 @@ no-kind (suc k) h = List·getD-eq-default kinds none {n = suc k} (above 9 (suc k
     kinds = none ∷ some Setup ∷ some Install ∷ some Retrieve ∷ some Rek ∷ some Enable ∷ some Remove ∷ some Cancel ∷ some List' ∷ some Info ∷ []
 
 -- ---- the tests for all kinds
-module _ (f : Bytes) {p : Bool} {r : Told} (e : p ≡ (isFrame f && versionHolds f)) where
-  pub told-no-frame : not p ≡ true → r ≡ unread → r ≡ told f
+-- what is told after the bit of a count: of a kind k and a status s
+abbrev pub toldRest : ℕ → ℕ → Bytes → Told
+toldRest k s f = if not (isStatus s) then unread else if eqb s 0 then toldSuccess (kindOf k) f else toldEmpty (Failed k s) f
+
+bit-is : (f : Bytes) {k b s : ℕ} {a : Bool} → k ≡ kindNumber f → b ≡ keptIn f → s ≡ statusIn f → a ≡ (eqb b 0 || (eqb s 0 && givesCount (kindOf k))) → a ≡ bitAllowed f
+bit-is f ek eb es e = e ∙ rw (eb, es, ek)
+
+module _ (f : Bytes) {p : Bool} (e : p ≡ (isFrame f && versionHolds f)) where
+  pub told-no-frame : {r : Told} → not p ≡ true → r ≡ unread → r ≡ told f
   unfolding told
   told-no-frame h q = q ∙ rw (failed-test e h)
 
-  module _ {s : Bool} (h : not p ≡ false) (a : s ≡ isStatus (statusIn f)) where
-    pub told-no-status : not s ≡ true → r ≡ unread → r ≡ told f
+  module _ (h : not p ≡ false) {k b s : ℕ} (ek : k ≡ kindNumber f) (eb : b ≡ keptIn f) (es : s ≡ statusIn f) {a : Bool} (ea : a ≡ (eqb b 0 || (eqb s 0 && givesCount (kindOf k)))) where
+    pub told-no-bit : {r : Told} → not a ≡ true → r ≡ unread → r ≡ told f
     unfolding told
-    told-no-status b q = q ∙ rw (passed e h, failed-test a b)
+    told-no-bit g q = q ∙ rw (passed e h, failed-test (bit-is f ek eb es ea) g)
 
-    module _ {k : ℕ} (b : not s ≡ false) (n : k ≡ kindNumber f) where
-      pub told-success : statusIn f ≡ 0 → r ≡ toldSuccess (kindOf k) f → r ≡ told f
-      unfolding told
-      told-success z q = q ∙ rw (passed e h, passed a b, eq-eqb (statusIn f) 0 z, n)
+    pub told-rest : not a ≡ false → told f ≡ toldRest k s f
+    unfolding told
+    told-rest g = rw (passed e h, passed (bit-is f ek eb es ea) g, ek, es)
 
-      pub told-failed : (statusIn f ≡ 0 → ⊥) → r ≡ toldEmpty (Failed k (statusIn f)) f → r ≡ told f
-      unfolding told
-      told-failed z q = q ∙ rw (passed e h, passed a b, ne-eqb (statusIn f) 0 z, n)
+module _ (f : Bytes) (k s : ℕ) {t : Bool} {r : Told} (e : told f ≡ toldRest k s f) (et : t ≡ isStatus s) where
+  pub told-no-status : not t ≡ true → r ≡ unread → r ≡ told f
+  told-no-status h q = q ∙ sym (e ∙ rw (failed-test et h))
+
+  pub told-success : not t ≡ false → s ≡ 0 → r ≡ toldSuccess (kindOf k) f → r ≡ told f
+  told-success h z q = q ∙ sym (e ∙ rw (passed et h, eq-eqb s 0 z))
+
+  pub told-failed : not t ≡ false → (s ≡ 0 → ⊥) → r ≡ toldEmpty (Failed k s) f → r ≡ told f
+  told-failed h z q = q ∙ sym (e ∙ rw (passed et h, ne-eqb s 0 z))

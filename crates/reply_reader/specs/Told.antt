@@ -7,10 +7,10 @@ use lib.ListN.{length, drop, replicate}
 use lib.Dec.{eqb}
 use Rattle.profile.specs.Bytes.{Bytes, if_then_else_, byte, part, word, pieces}
 use Rattle.profile.specs.Sizes.{handleSize, keySize, hashSize, notAReply}
-use Rattle.profile.specs.Slot.{rightWith}
-use Rattle.profile.specs.Frame.{Kind, Setup, Install, Retrieve, Rek, Enable, Remove, Cancel, List', Info, kindOf, isStatus, isFrame, versionHolds, kindNumber, body, statusIn}
+use Rattle.profile.specs.Slot.{Count, countWith, rightWith}
+use Rattle.profile.specs.Frame.{Kind, Setup, Install, Retrieve, Rek, Enable, Remove, Cancel, List', Info, kindOf, isStatus, isFrame, versionHolds, kindNumber, body, keptIn, statusIn}
 use Rattle.profile.specs.Agent.{nothing, theRight, theKey, handles, counted}
-use Rattle.profile.specs.Device.{none?, shaped, Reply, malformed, failed, gave, readReply}
+use Rattle.profile.specs.Device.{none?, bitAllowed, shaped, Reply, malformed, failed, gave, readReply}
 use Rattle.reply_reader.specs.declared.answer.Answer.{Answer}
 use Rattle.reply_reader.specs.declared.answer.Answer.the-variants.{Malformed, Failed, Nothing, Right, Key, Handles, Counted}
 use Rattle.reply_reader.specs.declared.answer.Told.{Told}
@@ -51,6 +51,10 @@ keyless a = record { answer = a; key = replicate keySize 0 }
 abbrev pub unread : Told
 unread = keyless Malformed
 
+-- the count whose number stands at an offset of the frame; its bit is in the second byte
+abbrev pub countFrom : ℕ → Bytes → Count
+countFrom at f = countWith (keptIn f) (word at f)
+
 -- kind 3, by offsets: the key from 4, the count from 20, the hash count in 22, the hashes from 23, the payload after them
 abbrev pub hashesIn : Bytes → ℕ
 hashesIn f = byte 22 f / 16
@@ -59,7 +63,7 @@ abbrev pub payloadFrom : Bytes → ℕ
 payloadFrom f = 23 + hashSize * hashesIn f
 
 unfoldable pub rightIn : Bytes → Told
-rightIn f = record { answer = Right (word 20 f) (hashesIn f) 23 (payloadFrom f) (length f - payloadFrom f); key = part 4 keySize f }
+rightIn f = record { answer = Right (countFrom 20 f) (hashesIn f) 23 (payloadFrom f) (length f - payloadFrom f); key = part 4 keySize f }
 
 -- kind 4: the key from 4
 unfoldable pub keyIn : Bytes → Told
@@ -71,7 +75,7 @@ listIn f = keyless (Handles (eqb (byte 4 f / 128) 1) ((length f - 5) / handleSiz
 
 -- kind 9: the count from 4, the payload from 6
 unfoldable pub infoIn : Bytes → Told
-infoIn f = keyless (Counted (word 4 f) 6 (length f - 6))
+infoIn f = keyless (Counted (countFrom 4 f) 6 (length f - 6))
 
 abbrev pub toldShaped : Kind → Bytes → Told
 toldShaped Setup f = keyless (Nothing 1)
@@ -100,6 +104,7 @@ toldEmpty a f = if none? (body f) then keyless a else unread
 unfoldable pub told : Bytes → Told
 told f =
     if not (isFrame f && versionHolds f) then unread
+    else if not (bitAllowed f) then unread
     else if not (isStatus (statusIn f)) then unread
     else if eqb (statusIn f) 0 then toldSuccess (kindOf (kindNumber f)) f
     else toldEmpty (Failed (kindNumber f) (statusIn f)) f

@@ -1,5 +1,5 @@
-// A reply read (PROFILE 6.3). It is refused with 203 unless its length, version and zero bits are right, its status is one of the
-// profile's, and its body is of its kind's shape at success and empty at every other status.
+// A reply read (PROFILE 6.3). It is refused with 203 unless its length, version and zero bits are right, the bit of a count is set only
+// where one is given, its status is one of the profile's, and its body is of its kind's shape at success and empty at every other status.
 use crate::answer::Answer;
 use crate::answer::Told;
 use profile::sizes::HANDLE_BYTES;
@@ -51,7 +51,7 @@ fn right_in(f: &[u8]) -> Told
     let at = 23 + HASH_BYTES * hashes;
     Told {
         answer: Answer::Right {
-            count: words::word_at(f, 20),
+            count: crate::shape::count_at(f, 20),
             hashes: hashes,
             hashes_at: 23,
             payload_at: at,
@@ -119,7 +119,7 @@ fn info_in(f: &[u8]) -> Told
     ensures { λ r. ⌜ r ≡ infoIn (now (f .entry)) ⌝ }
 {
     without_key(Answer::Counted {
-        count: words::word_at(f, 4),
+        count: crate::shape::count_at(f, 4),
         payload_at: 6,
         payload_length: f.len() - 6,
     })
@@ -152,7 +152,7 @@ fn read_success(f: &[u8], kind: u8) -> Told
     }
 }
 
-// The tests for all kinds, in their order.
+// The tests for all kinds, in their order. The second byte is the bit of a count above the status (PROFILE 3.2).
 fn tell(f: &[u8]) -> Told
     ensures { λ r. ⌜ r ≡ told (now (f .entry)) ⌝ }
 {
@@ -160,7 +160,11 @@ fn tell(f: &[u8]) -> Told
         return malformed();
     }
     let kind = bits::fields::frame_kind(f[0]);
-    let status = f[1];
+    let bit = bits::fields::flag_of(f[1]);
+    let status = bits::fields::flag_rest(f[1]);
+    if !crate::shape::bit_allowed(kind, bit, status) {
+        return malformed();
+    }
     if !crate::shape::is_status(status) {
         return malformed();
     }

@@ -1,4 +1,5 @@
 // The reply reader's tests (PROFILE 6.3): whether a frame is a reply, and whether its body is of its kind's shape.
+use profile::Count;
 use profile::sizes::HANDLE_BYTES;
 use profile::sizes::HASH_BYTES;
 use profile::sizes::KEY_BYTES;
@@ -6,10 +7,17 @@ use profile::sizes::MOST_HASHES;
 use profile::sizes::MOST_PAYLOAD;
 use profile::sizes::MOST_SLOTS;
 use profile::status::NOT_ENOUGH_SPACE;
+use profile::status::SUCCESS;
 ghost use mathlib.Core.Path.{_≡_};
-ghost use mathlib.Core.Bool.{_&&_};
-ghost use Rattle.profile.specs.Frame.{isStatus, isFrame, versionHolds, body, Retrieve, Rek, List', Info};
-ghost use Rattle.profile.specs.Device.{none?, shaped};
+ghost use mathlib.Core.Bool.{_&&_, _||_};
+ghost use Prim.Native.Nat.{_+_, _≤_};
+ghost use lib.Dec.{eqb};
+ghost use lib.ListN.{length};
+ghost use Rattle.profile.specs.Bytes.{word};
+ghost use Rattle.profile.specs.Slot.{countHolds};
+ghost use Rattle.profile.specs.Frame.{kindOf, isStatus, isFrame, versionHolds, keptIn, body, Retrieve, Rek, List', Info};
+ghost use Rattle.profile.specs.Device.{none?, givesCount, shaped};
+ghost use Rattle.reply_reader.specs.Told.{countFrom};
 
 // The length of a reply with a key, the most bytes of handles in a list, and the longest reply of kind 9.
 const KEY_REPLY: usize = 4 + KEY_BYTES;
@@ -43,6 +51,21 @@ pub fn is_reply(f: &[u8]) -> bool
     (f.len() == 4 + n) & (bits::fields::frame_version(f[0]) == 1)
 }
 
+// Kinds 3 and 9 give a count (PROFILE 3.2).
+fn gives_count(kind: u8) -> bool
+    ensures { λ r. ⌜ r ≡ givesCount (kindOf kind) ⌝ }
+{
+    (kind == 3) | (kind == 9)
+}
+
+// The bit of a count is 0, but for a success that gives one (PROFILE 6.3).
+pub fn bit_allowed(kind: u8, bit: u8, status: u8) -> bool
+    ensures { λ r. ⌜ r ≡ (eqb bit 0 || (eqb status 0 && givesCount (kindOf kind))) ⌝ }
+{
+    let gives = gives_count(kind);
+    (bit == 0) | ((status == SUCCESS) & gives)
+}
+
 // Whether a number is a status: 0 to 7 (PROFILE 4.2). 8 is not.
 pub fn is_status(s: u8) -> bool
     ensures { λ r. ⌜ r ≡ isStatus s ⌝ }
@@ -57,7 +80,26 @@ pub fn no_body(f: &[u8]) -> bool
     4 >= f.len()
 }
 
-// Kind 3: the four bits after the hash count are zero, there are at most 8 hashes, and the payload is 1 to 4,096 bytes long.
+// Whether the bit in the second byte and the number at an offset say a count: without the bit, the number must be 0.
+fn says_count(f: &[u8], at: usize) -> bool
+    requires { ⌜ (2 ≤ length (now f)) × (at + 2 ≤ length (now f)) ⌝ }
+    ensures { λ r. ⌜ r ≡ countHolds (keptIn (now (f .entry))) (word at (now (f .entry))) ⌝ }
+{
+    let bit = bits::fields::flag_of(f[1]);
+    counts::count_holds(bit, words::word_at(f, at))
+}
+
+// The count that they say.
+pub fn count_at(f: &[u8], at: usize) -> Count
+    requires { ⌜ (2 ≤ length (now f)) × (at + 2 ≤ length (now f)) ⌝ }
+    ensures { λ r. ⌜ r ≡ countFrom at (now (f .entry)) ⌝ }
+{
+    let bit = bits::fields::flag_of(f[1]);
+    let n = words::word_at(f, at);
+    counts::count_with(bit, n)
+}
+
+// Kind 3: a count, the four bits after the hash count zero, at most 8 hashes, and a payload of 1 to 4,096 bytes.
 pub fn is_right(f: &[u8]) -> bool
     ensures { λ r. ⌜ r ≡ shaped Retrieve (now (f .entry)) ⌝ }
 {
@@ -67,7 +109,9 @@ pub fn is_right(f: &[u8]) -> bool
     let hashes = wide8(bits::fields::hash_count_of(f[22]));
     let rest = bits::fields::hash_count_rest(f[22]);
     let at = 23 + HASH_BYTES * hashes;
-    (hashes <= MOST_HASHES) & (rest == 0) & (at < f.len()) & (f.len() <= at + MOST_PAYLOAD)
+    let sized = (at < f.len()) & (f.len() <= at + MOST_PAYLOAD);
+    let counted = says_count(f, 20);
+    (hashes <= MOST_HASHES) & (rest == 0) & sized & counted
 }
 
 // Kind 4: a key.
@@ -93,5 +137,9 @@ pub fn is_list(f: &[u8]) -> bool
 pub fn is_info(f: &[u8]) -> bool
     ensures { λ r. ⌜ r ≡ shaped Info (now (f .entry)) ⌝ }
 {
-    (6 < f.len()) & (f.len() <= MOST_INFO)
+    if f.len() < 6 {
+        return false;
+    }
+    let counted = says_count(f, 4);
+    (6 < f.len()) & (f.len() <= MOST_INFO) & counted
 }

@@ -22,15 +22,15 @@ mul-at c = search needs
 add-at : tie.Need-add-at
 add-at c = search needs
 
-word-at-requires : tie.Need-word-at-requires
-word-at-requires c κs = search needs
+count-at-requires : tie.Need-count-at-requires
+count-at-requires c κs = search needs
 
 sub-t10 : tie.Need-sub-t10
 sub-t10 c = search needs
 
 returns : tie.Need-returns
 unfolding rightIn
-returns c = rw (c .word-at .ensures, c .before .wide8 .ensures, c .before .before .hash-count-of .ensures, c .before .before .before .before .key-at .ensures)
+returns c = rw (c .count-at .ensures, c .before .wide8 .ensures, c .before .before .hash-count-of .ensures, c .before .before .before .before .key-at .ensures)
 
 pub right-in-spec : {M : Type 1} → statement M
 right-in-spec =
@@ -42,6 +42,6 @@ right-in-spec =
     wide8-requires
     mul-at
     add-at
-    word-at-requires
+    count-at-requires
     sub-t10
     returns)

@@ -30,14 +30,18 @@ mul-at c = search needs
 add-at : tie.Need-add-at
 add-at c = search needs
 
-add-result : tie.Need-add-result
-add-result c = search needs
+add-sized : tie.Need-add-sized
+add-sized c = search needs
+
+says-count-requires : tie.Need-says-count-requires
+says-count-requires c κs = search needs
 
 returns-2 : tie.Need-returns-2
 returns-2 c =
-    let counted = c .before .before in
-    let long = counted .before .before .before in
-    right-tests (now (long .before .before .args .f)) (long .if1 .left) (counted .wide8 .ensures ∙ counted .before .hash-count-of .ensures) (c .hash-count-rest .ensures)
+    let rest = c .before in
+    let many = rest .before .before in
+    let long = many .before .before .before in
+    right-tests (now (long .before .before .args .f)) (long .if1 .left) (many .wide8 .ensures ∙ many .before .hash-count-of .ensures) (rest .hash-count-rest .ensures) (c .says-count .ensures)
 
 pub is-right-spec : {M : Type 1} → statement M
 is-right-spec =
@@ -51,5 +55,6 @@ is-right-spec =
     hash-count-rest-requires
     mul-at
     add-at
-    add-result
+    add-sized
+    says-count-requires
     returns-2)
