@@ -7,8 +7,8 @@ use lib.ListN.{length, take, drop}
 use Rattle.profile.specs.Bytes.{Bytes, byte, word-bytes, zeros, joined}
 use Rattle.profile.specs.Sizes.{hashSize, mostHashes}
 use Rattle.profile.specs.Slot.{Count, Right, recount, HasRoom}
-use Rattle.profile.specs.Table.{slotHead, imageFields, image, blank}
-use Rattle.profile.proofs.Counts.{spare-small}
+use Rattle.profile.specs.Table.{slotHead, countBytes, imageFields, image, blank}
+use Rattle.profile.proofs.Counts.{kept-small, length-count}
 use Rattle.profile.proofs.Strings.{length-zeros, length-each}
 use Rattle.buffers.specs.Over.{overAt}
 use Rattle.changes.proofs.OverFields.{over-field, zeros-split}
@@ -18,16 +18,21 @@ module _ (p : ℕ) (h : Bytes) (r : Right) (len : ℕ) (h-10 : length h ≡ 10) 
   pub place-over : (q : ℕ) → overAt 0 ((64 * q + byte 0 (image p h r len) % 64) ∷ []) (image p h r len) ≡ image q h r len
   unfolding image
   place-over q =
-      let e : 64 * q + byte 0 (image p h r len) % 64 ≡ slotHead q r = omega (arith, f .hashed .few, spare-small r (f .counts)) in
+      let e : 64 * q + byte 0 (image p h r len) % 64 ≡ slotHead q r = omega (arith, f .hashed .few, kept-small (r .count)) in
       rw e (over-field (imageFields p h r len) 0 0 (slotHead q r ∷ []) (omega arith) refl refl)
 
   pub handle-over : (k : Bytes) → length k ≡ 10 → overAt 1 k (image p h r len) ≡ image p k r len
   unfolding image
   handle-over k e = over-field (imageFields p h r len) 1 1 k (omega arith) refl (e ∙ sym h-10)
 
-  pub count-over : (c : Count) → overAt 27 (word-bytes c) (image p h r len) ≡ image p h (recount c r) len
+  -- byte 0 with another place and another bit, and then the count
+  pub count-over : (q : ℕ) (c : Count) → overAt 27 (countBytes c) (overAt 0 (slotHead q (recount c r) ∷ []) (image p h r len)) ≡ image q h (recount c r) len
   unfolding image
-  count-over c = over-field (imageFields p h r len) 3 27 (word-bytes c) (omega arith) (omega (arith, f .key-16)) refl
+  count-over q c =
+      rw (
+        over-field (imageFields p h r len) 0 0 (slotHead q (recount c r) ∷ []) (omega arith) refl refl,
+        over-field ((slotHead q (recount c r) ∷ []) ∷ drop 1 (imageFields p h r len)) 3 27 (countBytes c) (omega arith) (omega (arith, f .key-16)) refl,
+      )
 
   pub length-over : (n : ℕ) → overAt 29 (word-bytes n) (image p h r len) ≡ image p h r n
   unfolding image
@@ -50,7 +55,7 @@ written p h r len s =
     overAt 192 (r .payload)
     (overAt 31 (joined (r .hashes))
     (overAt 29 (word-bytes len)
-    (overAt 27 (word-bytes (r .count))
+    (overAt 27 (countBytes (r .count))
     (overAt 11 (r .key)
     (overAt 1 h
     (overAt 0 (slotHead p r ∷ []) s))))))
@@ -80,7 +85,7 @@ module _ (p q : ℕ) (h k : Bytes) (r : Right) (n len : ℕ) (h-10 : length h �
         over-field (sofar 0) 0 0 (slotHead q r ∷ []) (omega arith) refl refl,
         over-field (sofar 1) 1 1 k (omega arith) refl (k-10 ∙ sym h-10),
         over-field (sofar 2) 2 11 (r .key) (omega arith) (omega arith) (f .key-16 ∙ sym (length-zeros 16)),
-        over-field (sofar 3) 3 27 (word-bytes (r .count)) (omega arith) (omega (arith, f .key-16)) refl,
+        over-field (sofar 3) 3 27 (countBytes (r .count)) (omega arith) (omega (arith, f .key-16)) refl,
         over-field (sofar 4) 4 29 (word-bytes len) (omega arith) (omega (arith, f .key-16)) refl,
         over-field (sofar 5) 5 31 (joined (r .hashes)) (omega arith) (omega (arith, f .key-16)) (sym (length-zeros a)),
         over-field (sofar 8) 8 192 (r .payload) (omega arith) (omega (arith, f .key-16, a-160, gap)) (sym (length-zeros m)),

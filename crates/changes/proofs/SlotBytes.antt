@@ -2,14 +2,12 @@
 use Prim.Native.Nat.{ℕ, _+_, _*_, _%_, _≤_}
 use mathlib.Core.Path.{_≡_, sym, ap, _∙_}
 use mathlib.Core.List.{[], _∷_, _++_, append-nil}
-use native.Mathlib.Nat.{add-zero}
 use native.Mathlib.Omega.{arith}
 use lib.ListN.{length, drop, replicate-append-replicate, length-drop}
 use Rattle.profile.specs.Bytes.{Bytes, byte, part, word, word-bytes, zeros, joined, Bytes256}
 use Rattle.profile.specs.Sizes.{hashSize, mostHashes}
-use Rattle.profile.specs.Slot.{Count, Right, recount, reserved, enabled, disabled, empty, taken, HasRoom}
-use Rattle.profile.specs.Table.{rightOf, unpack, image, blank, pack}
-use Rattle.profile.proofs.Counts.{blank-count}
+use Rattle.profile.specs.Slot.{Count, keptBit, Right, recount, reserved, enabled, disabled, empty, taken, HasRoom}
+use Rattle.profile.specs.Table.{hashCountOf, slotHead, countBytes, rightOf, unpack, image, blank, pack}
 use Rattle.profile.proofs.Strings.{length-zeros, length-part, length-pieces, each-pieces, joined-pieces}
 use Rattle.profile.proofs.Unpack.{pack-unpack}
 use Rattle.profile.proofs.WellFormed.{slot-fits}
@@ -35,7 +33,7 @@ empty-image =
     (zeros-more 160 4097 _ (zero-more 4096 _ (append-nil (zeros 4096))))))))))
 
 blank-room : HasRoom hashSize mostHashes blank
-blank-room = record { key-16 = length-zeros 16; counts = blank-count; hashed = record { each = tt; few = omega arith }; short = omega arith }
+blank-room = record { key-16 = length-zeros 16; hashed = record { each = tt; few = omega arith }; short = omega arith }
 
 -- the places of a record with a right: enabled, disabled
 data HasRight : ℕ → Type 0 where
@@ -107,14 +105,20 @@ module _ (s : Bytes) (bytes : Bytes256 s) where
       ∙ handle-over 3 (part 1 10 s) (rightOf s) (length (rightOf s .payload)) (handle-10 s bytes (w .long)) (right-room s bytes at-2 w) k e
 
   -- enabled, and another count
-  pub enables : (s₁ s₂ : Bytes) (c : Count) → Placed 3 s
-      → s₁ ≡ overAt 0 ((64 * 2 + byte 0 s % 64) ∷ []) s
-      → s₂ ≡ overAt 27 (word-bytes c) s₁
+  pub enables : (s₁ s₂ : Bytes) (c : Count) (hashes kept : ℕ) → Placed 3 s
+      → hashes ≡ hashCountOf s
+      → kept ≡ keptBit c
+      → s₁ ≡ overAt 0 ((64 * 2 + 4 * hashes + 2 * kept) ∷ []) s
+      → s₂ ≡ overAt 27 (countBytes c) s₁
       → s₂ ≡ pack (taken (part 1 10 s) (enabled (recount c (rightOf s))))
   unfolding pack
-  enables s₁ s₂ c w e₁ e₂ =
-      e₂ ∙ ap (overAt 27 (word-bytes c)) (e₁ ∙ moved s bytes 2 at-3 w)
-      ∙ count-over 2 (part 1 10 s) (rightOf s) (length (rightOf s .payload)) (handle-10 s bytes (w .long)) (right-room s bytes at-3 w) c
+  enables s₁ s₂ c hashes kept w e-hashes e-kept e₁ e₂ =
+      e₂ ∙ ap (overAt 27 (countBytes c)) (e₁ ∙ headed)
+      ∙ ap (λ (d : Bytes). overAt 27 (countBytes c) (overAt 0 (slotHead 2 (recount c (rightOf s)) ∷ []) d)) (is-right s bytes at-3 w)
+      ∙ count-over 3 (part 1 10 s) (rightOf s) (length (rightOf s .payload)) (handle-10 s bytes (w .long)) (right-room s bytes at-3 w) 2 c
+    where
+      headed : overAt 0 ((64 * 2 + 4 * hashes + 2 * kept) ∷ []) s ≡ overAt 0 (slotHead 2 (recount c (rightOf s)) ∷ []) s
+      headed = rw (e-kept, e-hashes, length-pieces hashSize (hashCountOf s) (drop 31 s))
 
 -- ---- the right of a request
 module _ (key : Bytes) (count : Count) (n m : ℕ) (f : Bytes) (at : ℕ) (k-16 : length key ≡ 16) (n-8 : n ≤ 8) (m-4096 : m ≤ 4096) (fits : at + 20 * n + m ≤ length f) where
@@ -131,20 +135,20 @@ module _ (key : Bytes) (count : Count) (n m : ℕ) (f : Bytes) (at : ℕ) (k-16 
   given-room =
       record {
         key-16 = k-16;
-        counts = tt;
         hashed = record { each = each-pieces hashSize n (drop at f) (rw (length-drop at f) (omega arith)); few = rw given-hashes n-8 };
         short = rw given-payload m-4096;
       }
 
   -- it is stored where a setup was: place, hash count and handle, then key, count and length, then hashes and payload
-  pub given-stored : (s₀ s₁ s₂ s₃ h : Bytes) → Bytes256 s₀ → length h ≡ 10 → Placed 1 s₀
-      → s₁ ≡ overAt 1 h (overAt 0 ((64 * 2 + 4 * n) ∷ []) s₀)
-      → s₂ ≡ overAt 29 (word-bytes m) (overAt 27 (word-bytes count) (overAt 11 key s₁))
+  pub given-stored : (s₀ s₁ s₂ s₃ h : Bytes) (kept : ℕ) → Bytes256 s₀ → length h ≡ 10 → Placed 1 s₀
+      → kept ≡ keptBit count
+      → s₁ ≡ overAt 1 h (overAt 0 ((64 * 2 + 4 * n + 2 * kept) ∷ []) s₀)
+      → s₂ ≡ overAt 29 (word-bytes m) (overAt 27 (countBytes count) (overAt 11 key s₁))
       → s₃ ≡ overAt 192 (part (at + 20 * n) m f) (overAt 31 (part at (20 * n) f) s₂)
       → s₃ ≡ pack (taken h (enabled (rightFrom key count n m f at)))
-  given-stored s₀ s₁ s₂ s₃ h bytes e w e₁ e₂ e₃ = rw (e₃, e₂, e₁) (sym same ∙ installs s₀ bytes h (rightFrom key count n m f at) e given-room w)
+  given-stored s₀ s₁ s₂ s₃ h kept bytes e w e₀ e₁ e₂ e₃ = rw (e₃, e₂, e₁, e₀) (sym same ∙ installs s₀ bytes h (rightFrom key count n m f at) e given-room w)
     where
       same : written 2 h (rightFrom key count n m f at) (length (rightFrom key count n m f at .payload)) s₀
           ≡ overAt 192 (part (at + 20 * n) m f)
-          (overAt 31 (part at (20 * n) f) (overAt 29 (word-bytes m) (overAt 27 (word-bytes count) (overAt 11 key (overAt 1 h (overAt 0 ((64 * 2 + 4 * n) ∷ []) s₀))))))
-      same = rw (given-bytes, given-payload, given-hashes, add-zero)
+          (overAt 31 (part at (20 * n) f) (overAt 29 (word-bytes m) (overAt 27 (countBytes count) (overAt 11 key (overAt 1 h (overAt 0 ((64 * 2 + 4 * n + 2 * keptBit count) ∷ []) s₀))))))
+      same = rw (given-bytes, given-payload, given-hashes)

@@ -14,6 +14,7 @@ ghost use Prim.Native.Nat.{_+_, _*_, _%_, _≤_, _<_};
 ghost use lib.ListN.{length};
 ghost use Rattle.profile.specs.Bytes.{byte, part, word-bytes};
 ghost use Rattle.profile.specs.Sizes.{slotSize, mostPayload, hashRoom, handleAt, keyAt, countAt, lengthAt, hashesAt, payloadAt};
+ghost use Rattle.profile.specs.Table.{countBytes};
 ghost use Rattle.buffers.specs.Over.{overAt};
 
 // Byte 0 with another place: the two bits of the place by a shift, the others by a mask.
@@ -24,7 +25,7 @@ pub fn with_place(b: u8, place: u8) -> u8
     (place << 6) | (b & 63)
 }
 
-// Another place; hash count and spare bits stay.
+// Another place; the other bits of byte 0 stay.
 pub fn put_place(s: &mut [u8], place: u8)
     requires { ⌜ (place < 4) × (1 ≤ length (now s)) ⌝ }
     ensures { λ _. ⌜ now (s .exit) ≡ overAt 0 ((64 * place + byte 0 (now (s .entry)) % 64) ∷ []) (now (s .entry)) ⌝ }
@@ -33,22 +34,38 @@ pub fn put_place(s: &mut [u8], place: u8)
     s[0] = b;
 }
 
-// Place, hash count and handle.
-pub fn put_label(s: &mut [u8], place: u8, hashes: u8, h: [u8; HANDLE_BYTES])
-    requires { ⌜ (place < 4) × (hashes < 16) × (keyAt ≤ length (now s)) ⌝ }
-    ensures { λ _. ⌜ now (s .exit) ≡ overAt handleAt h (overAt 0 ((64 * place + 4 * hashes) ∷ []) (now (s .entry))) ⌝ }
+// Byte 0 whole: place, hash count and the bit of a count.
+pub fn put_head(s: &mut [u8], place: u8, hashes: u8, kept: u8)
+    requires { ⌜ (place < 4) × (hashes < 16) × (kept < 2) × (1 ≤ length (now s)) ⌝ }
+    ensures { λ _. ⌜ now (s .exit) ≡ overAt 0 ((64 * place + 4 * hashes + 2 * kept) ∷ []) (now (s .entry)) ⌝ }
 {
-    s[0] = bits::fields::slot_head(place, hashes);
+    s[0] = bits::fields::slot_head(place, hashes, kept);
+}
+
+// Byte 0 and the handle.
+pub fn put_label(s: &mut [u8], place: u8, hashes: u8, kept: u8, h: [u8; HANDLE_BYTES])
+    requires { ⌜ (place < 4) × (hashes < 16) × (kept < 2) × (keyAt ≤ length (now s)) ⌝ }
+    ensures { λ _. ⌜ now (s .exit) ≡ overAt handleAt h (overAt 0 ((64 * place + 4 * hashes + 2 * kept) ∷ []) (now (s .entry))) ⌝ }
+{
+    put_head(s, place, hashes, kept);
     buffers::put_bytes(s, HANDLE_AT, &h);
+}
+
+// The number of a count; its bit is in byte 0.
+pub fn put_count(s: &mut [u8], count: Count)
+    requires { ⌜ lengthAt ≤ length (now s) ⌝ }
+    ensures { λ _. ⌜ now (s .exit) ≡ overAt countAt (countBytes count) (now (s .entry)) ⌝ }
+{
+    buffers::put_word(s, COUNT_AT, counts::number_of(count));
 }
 
 // Key, count and payload length.
 pub fn put_terms(s: &mut [u8], key: [u8; KEY_BYTES], count: Count, n: u16)
     requires { ⌜ hashesAt ≤ length (now s) ⌝ }
-    ensures { λ _. ⌜ now (s .exit) ≡ overAt lengthAt (word-bytes n) (overAt countAt (word-bytes count) (overAt keyAt key (now (s .entry)))) ⌝ }
+    ensures { λ _. ⌜ now (s .exit) ≡ overAt lengthAt (word-bytes n) (overAt countAt (countBytes count) (overAt keyAt key (now (s .entry)))) ⌝ }
 {
     buffers::put_bytes(s, KEY_AT, &key);
-    buffers::put_word(s, COUNT_AT, count);
+    put_count(s, count);
     buffers::put_word(s, LENGTH_AT, n);
 }
 

@@ -6,7 +6,6 @@ use profile::place::RESERVED;
 use profile::sizes::HANDLE_BYTES;
 use profile::sizes::HASH_BYTES;
 use profile::sizes::KEY_BYTES;
-use profile::slot::COUNT_AT;
 use profile::slot::HANDLE_AT;
 use profile::slot::LENGTH_AT;
 ghost use mathlib.Core.Path.{_≡_};
@@ -22,7 +21,7 @@ pub fn reserve(s: &mut [u8], h: [u8; HANDLE_BYTES], n: u16)
     requires { ⌜ Placed 0 (now s) ⌝ }
     ensures { λ _. ⌜ now (s .exit) ≡ pack (taken h (reserved n)) ⌝ }
 {
-    crate::fields::put_label(s, RESERVED, 0, h);
+    crate::fields::put_label(s, RESERVED, 0, 0, h);
     buffers::put_word(s, LENGTH_AT, n);
 }
 
@@ -40,7 +39,8 @@ pub fn install(
     requires { ⌜ Placed 1 (now s) × (hashes ≤ mostHashes) × (n ≤ mostPayload) × (at + hashSize * hashes + n ≤ length (now src)) ⌝ }
     ensures { λ _. ⌜ now (s .exit) ≡ pack (taken h (enabled (rightFrom key count hashes n (now (src .entry)) at))) ⌝ }
 {
-    crate::fields::put_label(s, ENABLED, hashes as u8, h);
+    let kept = counts::kept_bit(count);
+    crate::fields::put_label(s, ENABLED, hashes as u8, kept, h);
     crate::fields::put_terms(s, key, count, n as u16);
     crate::fields::put_content(s, src, at, HASH_BYTES * hashes, n);
 }
@@ -54,11 +54,13 @@ pub fn lend(s: &mut [u8], k: [u8; HANDLE_BYTES])
     buffers::put_bytes(s, HANDLE_AT, &k);
 }
 
-// The place's two bits and the count: handle, key, hashes and payload stay.
+// The place, and the count with its bit: hash count, handle, key, hashes and payload stay.
 pub fn enable(s: &mut [u8], count: Count)
     requires { ⌜ Placed 3 (now s) ⌝ }
     ensures { λ _. ⌜ now (s .exit) ≡ pack (taken (handleOf (now (s .entry))) (enabled (recount count (rightOf (now (s .entry)))))) ⌝ }
 {
-    crate::fields::put_place(s, ENABLED);
-    buffers::put_word(s, COUNT_AT, count);
+    let hashes = bits::fields::slot_hashes(s[0]);
+    let kept = counts::kept_bit(count);
+    crate::fields::put_head(s, ENABLED, hashes, kept);
+    crate::fields::put_count(s, count);
 }
