@@ -60,20 +60,17 @@ fn serve(table: &mut [u8], frame: &[u8], reply: &mut [u8], asked: Asked, body: B
             let h = asked.handle;
             setups::setup::set_up(table, reply, h, length)
         }
-        Body::Install {
-            count,
-            hashes,
-            at,
-            length,
-        } => {
+        Body::Install { hashes, at, length } => {
             let h = asked.handle;
             let key = asked.key;
+            let count = asked.count;
             setups::install::install(table, reply, h, key, count, hashes, frame, at, length)
         }
         Body::Retrieve => retrieve(table, reply, asked),
         Body::Rek => query_key(table, reply, asked),
-        Body::Enable { count } => {
+        Body::Enable => {
             let h = asked.handle;
+            let count = asked.count;
             rights::enable::enable(table, reply, h, count)
         }
         Body::Remove => {

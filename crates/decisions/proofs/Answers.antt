@@ -1,12 +1,12 @@
 -- An answer of the agent as it shows in the table and the reply buffer. Assumes nothing.
-use Prim.Native.Nat.{ℕ}
+use Prim.Native.Nat.{ℕ, _*_}
 use mathlib.Core.Path.{_≡_, refl, sym, ap, _∙_}
 use mathlib.Core.List.{List, []}
 use Rattle.profile.specs.Bytes.{Bytes, over, Bytes256}
 use Rattle.profile.specs.Slot.{Slot}
 use Rattle.profile.specs.Table.{slotsOf, tableOf}
 use Rattle.profile.specs.Frame.{Refusal, code, frame}
-use Rattle.profile.specs.Agent.{Given, nothing, Answer, deny, done, writeGiven, replyFrame}
+use Rattle.profile.specs.Agent.{Given, nothing, Answer, deny, done, givenBit, writeGiven, replyFrame}
 use Rattle.profile.proofs.Tables.{table-slots}
 use Rattle.decisions.specs.Serving.{Ready, Serves}
 
@@ -22,7 +22,7 @@ module _ {kind : ℕ} {a : Answer} {T B B' : Bytes} where
   unfolding replyFrame
   refused-serves d e = rw (d .answer) (record { table-is = refl; reply-is = e ∙ ap (λ (m : ℕ). over (frame kind m []) B) (sym (d .numbered)) })
 
-  pub done-serves : {g : Given} {u : List Slot} {T' : Bytes} → a ≡ done g u → T' ≡ tableOf u → B' ≡ over (frame kind 0 (writeGiven g)) B → Serves kind a T B T' B'
+  pub done-serves : {g : Given} {u : List Slot} {T' : Bytes} → a ≡ done g u → T' ≡ tableOf u → B' ≡ over (frame kind (128 * givenBit g) (writeGiven g)) B → Serves kind a T B T' B'
   unfolding replyFrame
   done-serves d t e = rw d (record { table-is = t; reply-is = e })
 

@@ -9,7 +9,7 @@ use Rattle.profile.specs.Slot.{Entry}
 use Rattle.profile.specs.Table.{rightOf, slotsOf, tableOf}
 use Rattle.profile.specs.Frame.{frame}
 use Rattle.profile.specs.Request.{info}
-use Rattle.profile.specs.Agent.{Answer, find, infoAt, act, writeGiven}
+use Rattle.profile.specs.Agent.{Answer, find, infoAt, act, givenBit, writeGiven}
 use Rattle.reply_writer.specs.Written.{infoOf}
 use Rattle.slots.specs.declared.place.Place.the-variants.{Enabled}
 use Rattle.tables.specs.LookUp.{foundAt}
@@ -34,7 +34,7 @@ module _ (t b h : Bytes) where
       s .reply-is
 
   pub info-done : (i : ℕ) → Held t h i Enabled → (s : Bytes) → s ≡ part (slotSize * i) slotSize t
-      → (r : Bytes) → r ≡ over (frame 9 0 (writeGiven (infoOf (rightOf s)))) b → r ≡ replyTo 9 (info h) t b
+      → (r : Bytes) → r ≡ over (frame 9 (128 * givenBit (infoOf (rightOf s))) (writeGiven (infoOf (rightOf s)))) b → r ≡ replyTo 9 (info h) t b
   unfolding act
   info-done i w s es r x =
       let d : Serves 9 (answerTo t (info h)) t b (tableOf (slotsOf t)) r = done-serves {g = infoOf (rightOf s)} (rw (w .found, ← w .lent, ← es)) refl x in

@@ -2,20 +2,20 @@
 use decisions::decision::Decision;
 use profile::sizes::HANDLE_BYTES;
 ghost use mathlib.Core.Path.{_≡_};
-ghost use Prim.Native.Nat.{_≤_};
+ghost use Prim.Native.Nat.{_*_, _≤_};
 ghost use lib.ListN.{length};
 ghost use Rattle.profile.specs.Bytes.{over};
 ghost use Rattle.profile.specs.Sizes.{slotSize, replyRoom, mostHashes, mostPayload};
 ghost use Rattle.profile.specs.Table.{hashCountOf, lengthOf, rightOf, slotsOf};
 ghost use Rattle.profile.specs.Frame.{frame};
-ghost use Rattle.profile.specs.Agent.{find, whenFound, lendAt, writeGiven};
+ghost use Rattle.profile.specs.Agent.{find, whenFound, lendAt, givenBit, writeGiven};
 ghost use Rattle.decisions.specs.Serving.{Ready, Serves};
 ghost use Rattle.rights.specs.Lending.{lentBy};
 
-// The reply at success, from the record's slot: kind 3 has the whole right, kind 4 its key (PROFILE 3.4).
+// The reply at success, from the record's slot: kind 3 has the whole right and says whether it keeps a count, kind 4 has its key (PROFILE 3.2, 3.4).
 fn reply_lent(reply: &mut [u8], slot: &[u8], kind: u8)
     requires { ⌜ (3 ≤ kind) × (kind ≤ 4) × (replyRoom ≤ length (now reply)) × (length (now slot) ≡ slotSize) × (hashCountOf (now slot) ≤ mostHashes) × (lengthOf (now slot) ≤ mostPayload) ⌝ }
-    ensures { λ _. ⌜ now (reply .exit) ≡ over (frame kind 0 (writeGiven (lentBy kind (rightOf (now (slot .entry)))))) (now (reply .entry)) ⌝ }
+    ensures { λ _. ⌜ now (reply .exit) ≡ over (frame kind (128 * givenBit (lentBy kind (rightOf (now (slot .entry))))) (writeGiven (lentBy kind (rightOf (now (slot .entry)))))) (now (reply .entry)) ⌝ }
 {
     if kind == 3 {
         reply_writer::writer::reply_right(reply, slot);

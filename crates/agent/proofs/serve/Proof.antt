@@ -33,7 +33,7 @@ install-requires : tie.Need-install-requires
 install-requires c κs =
     let told = c .before .before .before .before .before in
     let s = start (told .before .before) in
-    let w = install-within (now (s .args .frame)) (s .args .asked) (s .pre .1 .answers) _ _ _ _ (s .pre .1 .yes ∙ ap Yes (told .body2 .given .1)) in
+    let w = install-within (now (s .args .frame)) (s .args .asked) (s .pre .1 .answers) _ _ _ (s .pre .1 .yes ∙ ap Yes (told .body2 .given .1)) in
     (s .pre .0, record { few = w .few; some-payload = w .least; short = w .most; inside = omega (arith, w .ends) })
 
 enum-told : tie.Need-enum-told
@@ -48,36 +48,36 @@ enum-told-2 c = search needs
 query-key-requires : tie.Need-query-key-requires
 query-key-requires c κs = search needs
 
-enum-known-body-3 : tie.Need-enum-known-body-3
-enum-known-body-3 c = search needs
+enum-told-3 : tie.Need-enum-told-3
+enum-told-3 c = search needs
 
 enable-requires : tie.Need-enable-requires
 enable-requires c κs = search needs
 
-enum-told-3 : tie.Need-enum-told-3
-enum-told-3 c = search needs
+enum-told-4 : tie.Need-enum-told-4
+enum-told-4 c = search needs
 
 clear-requires : tie.Need-clear-requires
 clear-requires c κs = search needs
 
-enum-told-4 : tie.Need-enum-told-4
-enum-told-4 c = search needs
+enum-told-5 : tie.Need-enum-told-5
+enum-told-5 c = search needs
 
 clear-requires-2 : tie.Need-clear-requires-2
 clear-requires-2 c κs = search needs
 
-enum-known-body-4 : tie.Need-enum-known-body-4
-enum-known-body-4 c = search needs
+enum-known-body-3 : tie.Need-enum-known-body-3
+enum-known-body-3 c = search needs
 
 handle-list-requires : tie.Need-handle-list-requires
 handle-list-requires c κs =
     let told = c .before .before .before in
     let s = start (told .before .before) in
-    let w = list-within (now (s .args .frame)) (s .args .asked) (s .pre .1 .answers) _ _ _ (s .pre .1 .yes ∙ ap Yes (told .body4 .given .1)) in
+    let w = list-within (now (s .args .frame)) (s .args .asked) (s .pre .1 .answers) _ _ _ (s .pre .1 .yes ∙ ap Yes (told .body3 .given .1)) in
     (record { whole = s .pre .0 .whole; well = s .pre .0 .well; room = s .pre .0 .room }, w .few, omega (arith, w .ends))
 
-enum-told-5 : tie.Need-enum-told-5
-enum-told-5 c = search needs
+enum-told-6 : tie.Need-enum-told-6
+enum-told-6 c = search needs
 
 info-requires : tie.Need-info-requires
 info-requires c κs = search needs
@@ -139,8 +139,8 @@ same-length-10 c = search needs
 returns-5 : tie.Need-returns-5
 returns-5 c =
     let done = c .before .before .before .before in
-    let told = done .before .before .before .before .before in
-    served (start (told .before .before) .pre .1) _ (told .body3 .given .1) (omega arith) (done .enable .ensures)
+    let told = done .before .before .before .before in
+    served (start (told .before .before) .pre .1) _ (told .enum-told3 .given .1) (omega arith) (done .enable .ensures)
 
 same-length-11 : tie.Need-same-length-11
 same-length-11 c = search needs
@@ -152,7 +152,7 @@ returns-6 : tie.Need-returns-6
 returns-6 c =
     let done = c .before .before .before .before in
     let told = done .before .before .before .before in
-    served (start (told .before .before) .pre .1) _ (told .enum-told3 .given .1) (omega arith) (removed _ (done .clear .ensures))
+    served (start (told .before .before) .pre .1) _ (told .enum-told4 .given .1) (omega arith) (removed _ (done .clear .ensures))
 
 same-length-13 : tie.Need-same-length-13
 same-length-13 c = search needs
@@ -164,7 +164,7 @@ returns-7 : tie.Need-returns-7
 returns-7 c =
     let done = c .before .before .before .before in
     let told = done .before .before .before .before in
-    served (start (told .before .before) .pre .1) _ (told .enum-told4 .given .1) (omega arith) (cancelled _ (done .clear2 .ensures))
+    served (start (told .before .before) .pre .1) _ (told .enum-told5 .given .1) (omega arith) (cancelled _ (done .clear2 .ensures))
 
 same-length-15 : tie.Need-same-length-15
 same-length-15 c = search needs
@@ -179,7 +179,7 @@ returns-8 c =
     let m = told .before .before in
     let s = start m in
     let kept = list-keeps (now (s .args .table)) (bytes m) (s .pre .0 .whole) (s .pre .0 .well) _ _ in
-    served (s .pre .1) _ (told .body4 .given .1) (omega arith) (record { table-is = sym kept; reply-is = done .handle-list .ensures })
+    served (s .pre .1) _ (told .body3 .given .1) (omega arith) (record { table-is = sym kept; reply-is = done .handle-list .ensures })
 
 same-length-17 : tie.Need-same-length-17
 same-length-17 c = search needs
@@ -194,7 +194,7 @@ returns-9 c =
     let m = told .before .before in
     let s = start m in
     let kept = info-keeps (now (s .args .table)) (bytes m) (s .pre .0 .whole) (s .pre .0 .well) _ in
-    served (s .pre .1) _ (told .enum-told5 .given .1) (omega arith) (record { table-is = sym kept; reply-is = done .info .ensures })
+    served (s .pre .1) _ (told .enum-told6 .given .1) (omega arith) (record { table-is = sym kept; reply-is = done .info .ensures })
 
 pub serve-spec : {M : Type 1} → statement M
 serve-spec =
@@ -208,15 +208,15 @@ serve-spec =
     retrieve-requires
     enum-told-2
     query-key-requires
-    enum-known-body-3
-    enable-requires
     enum-told-3
-    clear-requires
+    enable-requires
     enum-told-4
-    clear-requires-2
-    enum-known-body-4
-    handle-list-requires
+    clear-requires
     enum-told-5
+    clear-requires-2
+    enum-known-body-3
+    handle-list-requires
+    enum-told-6
     info-requires
     same-length
     same-length-2

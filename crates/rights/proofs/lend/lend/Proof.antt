@@ -1,10 +1,11 @@
 -- `rights::lend::lend` meets its contract: refused as it was decided, or the reply from the slot and the slot lent. Assumes nothing.
 use denote.Ref.{now}
+use Prim.Native.Nat.{_*_}
 use mathlib.Core.Path.{ap, _∙_}
 use Rattle.profile.specs.Bytes.{Bytes, over, Bytes256}
 use Rattle.profile.specs.Table.{rightOf}
 use Rattle.profile.specs.Frame.{frame}
-use Rattle.profile.specs.Agent.{writeGiven}
+use Rattle.profile.specs.Agent.{givenBit, writeGiven}
 use Rattle.octets.proofs.ByteBounds.{below-256}
 use Rattle.slots.specs.declared.place.Place.the-variants.{Enabled}
 use Rattle.decisions.proofs.Answers.{refused-serves, done-serves}
@@ -83,7 +84,7 @@ returns-2 c =
     let at = lent .before .before .before .before in
     let d = at .before .before in
     let a = start d .args in
-    let given : Bytes → Bytes = λ s. over (frame (a .kind) 0 (writeGiven (lentBy (a .kind) (rightOf s)))) (now (a .reply)) in
+    let given : Bytes → Bytes = λ s. over (frame (a .kind) (128 * givenBit (lentBy (a .kind) (rightOf s))) (writeGiven (lentBy (a .kind) (rightOf s)))) (now (a .reply)) in
     done-serves (lends _ _ _ _ (bytes d) (start d .pre .0) _ (d .slot-to-lend .ensures) _ _ (at .i .given .1) (lentBy (a .kind))) (changed .relabel .ensures)
     (replied .reply-lent .ensures ∙ ap given (lent .slot-at .ensures .0 ∙ found at .lent))
 
