@@ -11,6 +11,7 @@ use lib.Seq.{take-suc, take-all, length-take-le}
 use Rattle.profile.specs.Bytes.{Bytes, part, joined}
 use Rattle.profile.specs.Sizes.{slotSize, mostSlots}
 use Rattle.profile.specs.Text.{text}
+use Rattle.profile.specs.Slot.{countNumber}
 use Rattle.profile.specs.Table.{placeOf, hashCountOf, countOf, lengthOf, slotCount, slotBytes, wellSlot}
 use Rattle.profile.specs.Listing.{decimal, placeWord, line, lines}
 use Rattle.profile.proofs.WellFormed.{few-slots}
@@ -50,19 +51,19 @@ module _ (hashes count size : ℕ) where
 regroup : (a b c d e f g : Bytes) → joined (a ∷ b ∷ c ∷ b ∷ d ∷ b ∷ e ∷ b ∷ f ∷ g ∷ []) ≡ (a ++ b ++ c) ++ ((b ++ d) ++ (b ++ e) ++ (b ++ f) ++ g)
 regroup a b c d e f g = simp (append-assoc, append-nil)
 
-line-is : (i : ℕ) (s : Bytes) → lineOf i s ≡ labelOf i (placeOf s) ++ sizesOf (hashCountOf s) (countOf s) (lengthOf s)
+line-is : (i : ℕ) (s : Bytes) → lineOf i s ≡ labelOf i (placeOf s) ++ sizesOf (hashCountOf s) (countNumber (countOf s)) (lengthOf s)
 unfolding lineOf labelOf sizesOf number field placed
-line-is i s = regroup (decimal i) (text " ") (placeWord (placeOf s)) (decimal (hashCountOf s)) (decimal (countOf s)) (decimal (lengthOf s)) (text "\n")
+line-is i s = regroup (decimal i) (text " ") (placeWord (placeOf s)) (decimal (hashCountOf s)) (decimal (countNumber (countOf s))) (decimal (lengthOf s)) (text "\n")
 
 pub line-there : (i : ℕ) (s : Bytes) (h : Head) → HeadOf s h → {at e₁ e₂ : ℕ} {d d₁ d₂ : Bytes} → Wrote (labelOf i (placeNumber (h .place))) at d d₁ e₁
-    → Wrote (sizesOf (h .hashes) (h .count) (h .length)) e₁ d₁ d₂ e₂ → Wrote (lineOf i s) at d d₂ e₂
-line-there i s h of u v =
-    rw (line-is i s, ← of .place-is, ← of .hashes-are, ← of .count-is, ← of .length-is) (wrote-then u v)
+    → (n : ℕ) → n ≡ countNumber (h .count) → Wrote (sizesOf (h .hashes) n (h .length)) e₁ d₁ d₂ e₂ → Wrote (lineOf i s) at d d₂ e₂
+line-there i s h of u n e v =
+    rw (line-is i s, ← of .place-is, ← of .hashes-are, ← of .count-is, ← e, ← of .length-is) (wrote-then u v)
 
 pub line-most : (i : ℕ) (s : Bytes) → i < 100 → hashCountOf s < 10 → lengthOf s < 10000 → length (lineOf i s) ≤ 25
 line-most i s h few short =
     rw (line-is i s)
-    (simp length-append (omega (arith, label-most i (placeOf s) h, sizes-most (hashCountOf s) (countOf s) (lengthOf s) few short)))
+    (simp length-append (omega (arith, label-most i (placeOf s) h, sizes-most (hashCountOf s) (countNumber (countOf s)) (lengthOf s) few short)))
 
 -- ---- the lines of the first i slots
 lines-snoc : (k : ℕ) (xs : List Bytes) (s : Bytes) → lines k (xs ++ (s ∷ [])) ≡ lines k xs ++ line (k + length xs) s

@@ -5,7 +5,6 @@ use mathlib.Core.List.{_++_}
 use mathlib.Core.Bool.{true}
 use lib.ListN.{length}
 use Rattle.profile.specs.Bytes.{Bytes}
-use Rattle.profile.specs.Slot.{Count}
 use Rattle.profile.specs.Text.{text}
 use Rattle.profile.specs.Table.{slotBytes, wholeSlots, wellTable}
 use Rattle.profile.specs.Listing.{decimal, placeWord, line, lines, refusedLine}
@@ -36,7 +35,7 @@ placed p = placeWord p
 unfoldable pub labelOf : ℕ → ℕ → Bytes
 labelOf i place = number i ++ text " " ++ placed place
 
-unfoldable pub sizesOf : ℕ → Count → ℕ → Bytes
+unfoldable pub sizesOf : ℕ → ℕ → ℕ → Bytes
 sizesOf hashes count size = field hashes ++ field count ++ field size ++ text "\n"
 
 unfoldable pub lineOf : ℕ → Bytes → Bytes

@@ -3,7 +3,6 @@ use crate::put::put_field;
 use crate::put::put_number;
 use crate::put::put_place;
 use crate::put::put_word;
-use profile::Count;
 use profile::sizes::SLOT_BYTES;
 use slots::place::Place;
 ghost use mathlib.Core.Path.{_≡_};
@@ -24,8 +23,8 @@ fn put_label(out: &mut [u8], at: usize, i: usize, place: Place) -> usize
     put_place(out, after_space, place)
 }
 
-// The rest of it: hash count, count and payload length, and the newline.
-fn put_sizes(out: &mut [u8], at: usize, hashes: usize, count: Count, size: usize) -> usize
+// The rest of it: hash count, the count's number and payload length, and the newline. The listing does not show whether a count is kept.
+fn put_sizes(out: &mut [u8], at: usize, hashes: usize, count: u16, size: usize) -> usize
     requires { ⌜ (hashes < 10) × (size < 10000) × (at + 14 ≤ length (now out)) ⌝ }
     ensures { λ r. ⌜ Wrote (sizesOf hashes count size) at (now (out .entry)) (now (out .exit)) r ⌝ }
 {
@@ -42,8 +41,10 @@ fn put_line(out: &mut [u8], at: usize, i: usize, slot: &[u8]) -> usize
 {
     let head = slots::head::head_of(slot);
     let place = head.place;
+    let count = head.count;
+    let number = counts::number_of(count);
     let next = put_label(out, at, i, place);
-    put_sizes(out, next, head.hashes, head.count, head.length)
+    put_sizes(out, next, head.hashes, number, head.length)
 }
 
 // The lines of all slots. The first has the index 0.

@@ -10,12 +10,15 @@ use Rattle.listing.proofs.lines.put_line.Tie as tie
 head-of-requires : tie.Need-head-of-requires
 head-of-requires c κs = search needs
 
+number-of-requires : tie.Need-number-of-requires
+number-of-requires c κs = search needs
+
 put-label-requires : tie.Need-put-label-requires
 put-label-requires c κs = search needs
 
 put-sizes-requires : tie.Need-put-sizes-requires
 put-sizes-requires c κs =
-    let head = c .before .before .before .before .before in
+    let head = c .before .before .before .before .before .before in
     let start = head .before .before .before in
     let h = head .head-of in
     (omega (arith, h .ensures .hashes-are), omega (arith, h .ensures .length-is), omega (arith, label-most (start .args .i) (placeNumber (h .result .place)) (start .pre .0)))
@@ -27,10 +30,11 @@ returns : tie.Need-returns
 returns c =
     let last = c .before .before in
     let label = last .before .before .before .before in
-    let head = label .before .before in
+    let number = label .before .before in
+    let head = number .before in
     let start = head .before .before .before in
-    line-there (start .args .i) (now (start .args .slot)) (head .head-of .result) (head .head-of .ensures) (label .put-label .ensures) (last .put-sizes .ensures)
+    line-there (start .args .i) (now (start .args .slot)) (head .head-of .result) (head .head-of .ensures) (label .put-label .ensures) _ (number .number-of .ensures) (last .put-sizes .ensures)
 
 pub put-line-spec : {M : Type 1} → statement M
 put-line-spec =
-    tie.close (tie.spec head-of-requires put-label-requires put-sizes-requires same-length returns)
+    tie.close (tie.spec head-of-requires number-of-requires put-label-requires put-sizes-requires same-length returns)
