@@ -20,10 +20,10 @@ extern "C" {
 #endif
 
 /* The version of the library. */
-#define CAVERNLULL_VERSION_MAJOR 2
+#define CAVERNLULL_VERSION_MAJOR 3
 #define CAVERNLULL_VERSION_MINOR 0
-#define CAVERNLULL_VERSION_PATCH 1
-#define CAVERNLULL_VERSION "2.0.1"
+#define CAVERNLULL_VERSION_PATCH 0
+#define CAVERNLULL_VERSION "3.0.0"
 
 /* Sizes in bytes, and the most slots and hashes (PROFILE 1.3). */
 enum {
@@ -63,8 +63,9 @@ enum {
     CAVERNLULL_RIGHTS_INFORMATION_QUERY = 9
 };
 
-/* The statuses, in a reply's second byte (PROFILE 4.2). With every status but 0, the table stays as it was. 8 is not used: no
- * card sends it, and the reply reader refuses it. */
+/* The statuses, in a reply's second byte (PROFILE 4.2). In replies to kinds 3 and 9 the top bit of that byte is the count's
+ * (CAVERNLULL_KEPT_IN_REPLY), and the status is the other seven bits. With every status but 0, the table stays as it was. 8 is
+ * not used: no card sends it, and the reply reader refuses it. */
 enum {
     CAVERNLULL_SUCCESS = 0,
     CAVERNLULL_FIELD_INTEGRITY_VERIFICATION_FAILED = 1,
@@ -74,6 +75,14 @@ enum {
     CAVERNLULL_DUPLICATE_HANDLE = 5,
     CAVERNLULL_UNEXPECTED_REQUEST = 6,
     CAVERNLULL_NOT_ENOUGH_SPACE = 7
+};
+
+/* The bit that says that a count is kept (PROFILE 2.6). Where it is 0, none is kept, and the count must be 0. Where it is 1,
+ * the count is 0 to 65,535, and 0 is a count that is used up. */
+enum {
+    CAVERNLULL_KEPT_IN_SLOT = 0x02,    /* in a slot's first byte, where the slot holds a right; else 0 */
+    CAVERNLULL_KEPT_IN_REQUEST = 0x40, /* in a request's second byte, for kinds 2 and 5; else 0 */
+    CAVERNLULL_KEPT_IN_REPLY = 0x80    /* in a reply's second byte, for a success of kinds 3 and 9; else 0 */
 };
 
 /* The card agent (PROFILE 1.1): answers one request frame about a table of 1 to 15 slots. A table of zeros is a blank card.
@@ -86,7 +95,8 @@ enum {
  * Otherwise returns the first of these numbers that applies, and changes neither `table` nor `reply`:
  *   101 CAVERNLULL_REPLY_BUFFER_SHORT     the reply buffer has fewer than 4,279 bytes
  *   102 CAVERNLULL_TABLE_LENGTH           the table is not 1 to 15 slots of 4,288 bytes
- *   103 CAVERNLULL_TABLE_NOT_WELL_FORMED  a slot is not well formed, or two records have the same handle
+ *   103 CAVERNLULL_TABLE_NOT_WELL_FORMED  a slot is not well formed, by a count without its bit for example, or two records
+ *                                         have the same handle
  *   104 CAVERNLULL_NO_FRAME               the frame has fewer than 4 bytes, or is not 4 plus its body length long
  * Where the card refuses to carry out the request, the call returns 0, with a reply whose status is not 0.
  */
@@ -98,32 +108,35 @@ uint16_t cavernlull_call(uint8_t *table, size_t table_length, const uint8_t *fra
  *
  *   kind                             fields
  *   1  Installation Setup            handle, room (the length asked for)
- *   2  Rights Installation           handle, key, count, hashes, payload
+ *   2  Rights Installation           handle, key, count, kept, hashes, payload
  *   3  Rights Retrieval              handle, new_handle
  *   4  REK Query                     handle, new_handle
- *   5  Rights Enablement             handle, count
+ *   5  Rights Enablement             handle, count, kept
  *   6  Rights Removal                handle
  *   7  Handle Removal                handle
  *   8  Handle List Query             limit, hashes
  *   9  Rights Information Query      handle
+ *
+ * `kept` is 1 where a count is kept, and 0 where none is: `count` must then be 0.
  *
  * Returns 0 when it has written the frame at the start of `out`. The frame's length is 4 plus the 16-bit number, high byte
  * first, in its third and fourth bytes; the bytes after it keep what they held.
  *
  * Otherwise returns the first of these numbers that applies, and does not change `out`:
  *   202 CAVERNLULL_WRITER_FIELDS        the kind is not 1 to 9; the hashes are not 0 to 8 times 20 bytes; the payload of kind 2
- *                                       is not 1 to 4,096 bytes; or a field that the kind lacks is not zero or empty
+ *                                       is not 1 to 4,096 bytes; `kept` is over 1; `count` is not 0 though `kept` is 0; or a
+ *                                       field that the kind lacks is not zero or empty
  *   201 CAVERNLULL_WRITER_BUFFER_SHORT  the frame does not fit into `out`
  */
 uint16_t cavernlull_write_request(uint8_t kind, const uint8_t *handle, const uint8_t *new_handle, const uint8_t *key,
-                                  uint16_t room, uint16_t count, uint16_t limit, const uint8_t *hashes,
+                                  uint16_t room, uint16_t count, uint8_t kept, uint16_t limit, const uint8_t *hashes,
                                   size_t hashes_length, const uint8_t *payload, size_t payload_length, uint8_t *out,
                                   size_t out_length);
 
-/* The ten numbers that the reply reader writes, by index. An offset counts from the frame's first byte. */
+/* The eleven numbers that the reply reader writes, by index. An offset counts from the frame's first byte. */
 enum {
     CAVERNLULL_REPLY_KIND = 0,
-    CAVERNLULL_REPLY_STATUS = 1,
+    CAVERNLULL_REPLY_STATUS = 1, /* without the count's bit */
     CAVERNLULL_REPLY_COUNT = 2,
     CAVERNLULL_REPLY_HASHES = 3,    /* how many, of 20 bytes each */
     CAVERNLULL_REPLY_HASHES_AT = 4, /* the offset of the first */
@@ -132,22 +145,24 @@ enum {
     CAVERNLULL_REPLY_MORE = 7,    /* 1 if a handle was left off the list, else 0 */
     CAVERNLULL_REPLY_HANDLES = 8, /* how many, of 10 bytes each */
     CAVERNLULL_REPLY_HANDLES_AT = 9,
-    CAVERNLULL_REPLY_NUMBERS = 10
+    CAVERNLULL_REPLY_KEPT = 10, /* 1 if the reply says that a count is kept, else 0 */
+    CAVERNLULL_REPLY_NUMBERS = 11
 };
 
-/* The device's reply reader (PROFILE 6.3): takes a reply frame apart. `key` is 16 bytes, `fields` ten numbers.
+/* The device's reply reader (PROFILE 6.3): takes a reply frame apart. `key` is 16 bytes, `fields` eleven numbers.
  *
  * Returns 0 when it has written all of `key` and `fields`. What the reply lacks is 0. Beside kind and status, a success has:
  *
- *   3  Rights Retrieval              key, count, hashes, payload
+ *   3  Rights Retrieval              key, count, kept, hashes, payload
  *   4  REK Query                     key
  *   8  Handle List Query             more, handles
- *   9  Rights Information Query      count, payload
+ *   9  Rights Information Query      count, kept, payload
  *
  * Otherwise returns this number, and changes neither `key` nor `fields`:
  *   203 CAVERNLULL_NO_REPLY  the frame is not 4 plus its body length long; its version is not 1; its status is over 7; it has a
- *                            body though its status is not 0; or its status is 0 and its body is not of its kind's shape (a
- *                            kind outside 1 to 9 has none)
+ *                            body though its status is not 0; its status is 0 and its body is not of its kind's shape (a kind
+ *                            outside 1 to 9 has none); the count's bit is set though it is no success of kind 3 or 9; or it
+ *                            has a count that is not 0 though that bit is 0
  */
 uint16_t cavernlull_read_reply(const uint8_t *frame, size_t frame_length, uint8_t *key, uint16_t *fields);
 
@@ -162,6 +177,21 @@ uint16_t cavernlull_read_reply(const uint8_t *frame, size_t frame_length, uint8_
  *   refused 103                           a slot is not well formed, or two records have the same handle
  */
 size_t cavernlull_list(const uint8_t *table, size_t table_length, uint8_t *out);
+
+/* The turning of an old table (PROFILE 2.7), in place. A table that a version before 3.0.0 wrote has no bit for the count: both
+ * spare bits of a slot's first byte are 0, and a count of 0 says that none is kept. With a count in it, the agent and the
+ * listing refuse such a table with 103. It is turned once.
+ *
+ * Returns 0 when it has set CAVERNLULL_KEPT_IN_SLOT in the first byte of each slot whose count is not 0. No other byte changes,
+ * and the table is well formed.
+ *
+ * Otherwise returns the first of these numbers that applies, and does not change `table`:
+ *   102 CAVERNLULL_TABLE_LENGTH           the table is not 1 to 15 slots of 4,288 bytes
+ *   103 CAVERNLULL_TABLE_NOT_WELL_FORMED  a slot is not well formed by the old rules, or two records have the same handle
+ * A table in which a count is kept is not well formed by the old rules, and so is not turned again. One without counts may be
+ * turned again, and stays as it is.
+ */
+uint16_t cavernlull_turn(uint8_t *table, size_t table_length);
 
 #ifdef __cplusplus
 }

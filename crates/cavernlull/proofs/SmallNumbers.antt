@@ -2,18 +2,19 @@
 use Prim.Native.Nat.{_+_, _-_, _*_, _/_, _%_, _<_}
 use mathlib.Core.Path.{_≡_, refl, _∙_}
 use mathlib.Core.Option.{Option, none, some}
-use mathlib.Core.Bool.{true, _&&_, not}
+use mathlib.Core.Bool.{Bool, true, _&&_, not}
 use native.Mathlib.Omega.{arith}
 use lib.Dec.{eqb, leb, ltb}
 use lib.ListN.{length}
-use Rattle.profile.specs.Bytes.{Bytes, byte}
+use Rattle.profile.specs.Bytes.{Bytes, byte, word}
 use Rattle.profile.specs.Sizes.{mostSlots, mostPayload, handleSize, mostHashes}
-use Rattle.profile.specs.Frame.{Kind, Setup, Install, Retrieve, Rek, Enable, Remove, Cancel, List', Info, kindOf, isStatus, isFrame, versionHolds, kindNumber, body, statusIn}
-use Rattle.profile.specs.Device.{none?, shaped}
+use Rattle.profile.specs.Slot.{countHolds}
+use Rattle.profile.specs.Frame.{Kind, Setup, Install, Retrieve, Rek, Enable, Remove, Cancel, List', Info, kindOf, isStatus, isFrame, versionHolds, kindNumber, body, keptIn, statusIn}
+use Rattle.profile.specs.Device.{none?, bitAllowed, shaped}
 use Rattle.profile.proofs.Logic.{and-parts, leb-le, if-both, if-cases}
 use Rattle.reply_reader.specs.declared.answer.Told.{Told}
 use Rattle.reply_reader.specs.Told.{keyless, payloadFrom, rightIn, keyIn, listIn, infoIn, toldShaped, toldSuccess, told, Reads}
-use Rattle.reply_reader.proofs.Shapes.{right-room, right-tests, list-room, list-tests, info-tests}
+use Rattle.reply_reader.proofs.Shapes.{right-room, right-tests, list-room, list-tests, info-room, info-tests}
 use Rattle.cavernlull.specs.Numbers.{Small}
 
 abbrev SmallTold : Told → Type 0
@@ -24,10 +25,11 @@ module _ (f : Bytes) where
   right-small e =
       let n = byte 22 f / 16 in
       let room = right-room f e in
-      let all = and-parts (leb n mostHashes && eqb (byte 22 f % 16) 0 && ltb (payloadFrom f) (length f)) (leb (length f) (payloadFrom f + mostPayload)) (right-tests f (room .0) refl refl ∙ e) in
-      let fields = and-parts (leb n mostHashes && eqb (byte 22 f % 16) 0) (ltb (payloadFrom f) (length f)) (all .0) in
-      let few = leb-le n mostHashes (and-parts (leb n mostHashes) (eqb (byte 22 f % 16) 0) (fields .0) .0) in
-      let short = leb-le (length f) (payloadFrom f + mostPayload) (all .1) in
+      let hashed : Bool = leb n mostHashes && eqb (byte 22 f % 16) 0 in
+      let sized : Bool = ltb (payloadFrom f) (length f) && leb (length f) (payloadFrom f + mostPayload) in
+      let all = and-parts hashed sized (and-parts (hashed && sized) (countHolds (keptIn f) (word 20 f)) (right-tests f (room .0) refl refl refl ∙ e) .0) in
+      let few = leb-le n mostHashes (and-parts (leb n mostHashes) (eqb (byte 22 f % 16) 0) (all .0) .0) in
+      let short = leb-le (length f) (payloadFrom f + mostPayload) (and-parts (ltb (payloadFrom f) (length f)) (leb (length f) (payloadFrom f + mostPayload)) (all .1) .1) in
       (omega (arith, few), omega arith, omega (arith, few), omega (arith, short))
 
   list-small : shaped List' f ≡ true → ((length f - 5) / handleSize < 65536) × (5 < 65536)
@@ -38,7 +40,9 @@ module _ (f : Bytes) where
 
   info-small : shaped Info f ≡ true → (6 < 65536) × (length f - 6 < 65536)
   info-small e =
-      let short = leb-le (length f) (6 + mostPayload) (and-parts (ltb 6 (length f)) (leb (length f) (6 + mostPayload)) (info-tests f ∙ e) .1) in
+      let sized : Bool = ltb 6 (length f) && leb (length f) (6 + mostPayload) in
+      let all = and-parts sized (countHolds (keptIn f) (word 4 f)) (info-tests f (info-room f e) refl ∙ e) in
+      let short = leb-le (length f) (6 + mostPayload) (and-parts (ltb 6 (length f)) (leb (length f) (6 + mostPayload)) (all .0) .1) in
       (omega arith, omega (arith, short))
 
   of-kind : (k : Kind) → shaped k f ≡ true → SmallTold (toldShaped k f)
@@ -62,9 +66,10 @@ module _ (f : Bytes) where
   unfolding told keyless
   told-small =
       if-both SmallTold (not (isFrame f && versionHolds f)) tt
+      (if-both SmallTold (not (bitAllowed f)) tt
       (if-both SmallTold (not (isStatus (statusIn f))) tt
       (if-both SmallTold (eqb (statusIn f) 0) (of-success (kindOf (kindNumber f)))
-      (if-both SmallTold (none? (body f)) tt tt)))
+      (if-both SmallTold (none? (body f)) tt tt))))
 
   pub reads-small : (t : Told) → Reads f t → Small (t .answer)
   reads-small t r = rw (r .exact) told-small

@@ -1,29 +1,29 @@
--- A reply as C has it: a key, and ten numbers.
+-- A reply as C has it: a key, and eleven numbers.
 use Prim.Native.Nat.{ℕ, _<_}
 use mathlib.Core.Path.{_≡_}
 use mathlib.Core.List.{List, [], _∷_}
 use mathlib.Core.Bool.{Bool, cond}
 use Rattle.profile.specs.Bytes.{Bytes}
 use Rattle.profile.specs.Sizes.{notAReply}
-use Rattle.profile.specs.Slot.{Count}
+use Rattle.profile.specs.Slot.{Count, keptBit, countNumber}
 use Rattle.profile.specs.Device.{readReply}
 use Rattle.reply_reader.specs.declared.answer.Answer.{Answer}
 use Rattle.reply_reader.specs.declared.answer.Answer.the-variants.{Malformed, Failed, Nothing, Right, Key, Handles, Counted}
 use Rattle.reply_reader.specs.Told.{meaning, told}
 
--- ---- the numbers: kind, status, count, number of hashes, offset of the hashes, offset of the payload, payload length, more, number of
--- handles, offset of the handles; what a reply lacks is 0
+-- ---- the numbers: kind, status, the count's number, number of hashes, offset of the hashes, offset of the payload, payload length, more, number of
+-- handles, offset of the handles, whether a count is kept; what a reply lacks is 0
 abbrev pub ofStatus : ℕ → ℕ → List ℕ
-ofStatus kind status = kind ∷ status ∷ 0 ∷ 0 ∷ 0 ∷ 0 ∷ 0 ∷ 0 ∷ 0 ∷ 0 ∷ []
+ofStatus kind status = kind ∷ status ∷ 0 ∷ 0 ∷ 0 ∷ 0 ∷ 0 ∷ 0 ∷ 0 ∷ 0 ∷ 0 ∷ []
 
 abbrev pub ofRight : Count → ℕ → ℕ → ℕ → ℕ → List ℕ
-ofRight count n hashes at size = 3 ∷ 0 ∷ count ∷ n ∷ hashes ∷ at ∷ size ∷ 0 ∷ 0 ∷ 0 ∷ []
+ofRight count n hashes at size = 3 ∷ 0 ∷ countNumber count ∷ n ∷ hashes ∷ at ∷ size ∷ 0 ∷ 0 ∷ 0 ∷ keptBit count ∷ []
 
 abbrev pub ofHandles : Bool → ℕ → ℕ → List ℕ
-ofHandles more n at = 8 ∷ 0 ∷ 0 ∷ 0 ∷ 0 ∷ 0 ∷ 0 ∷ cond more 1 0 ∷ n ∷ at ∷ []
+ofHandles more n at = 8 ∷ 0 ∷ 0 ∷ 0 ∷ 0 ∷ 0 ∷ 0 ∷ cond more 1 0 ∷ n ∷ at ∷ 0 ∷ []
 
 abbrev pub ofCounted : Count → ℕ → ℕ → List ℕ
-ofCounted count at size = 9 ∷ 0 ∷ count ∷ 0 ∷ 0 ∷ at ∷ size ∷ 0 ∷ 0 ∷ 0 ∷ []
+ofCounted count at size = 9 ∷ 0 ∷ countNumber count ∷ 0 ∷ 0 ∷ at ∷ size ∷ 0 ∷ 0 ∷ 0 ∷ keptBit count ∷ []
 
 abbrev pub numbers : Answer → List ℕ
 numbers Malformed = ofStatus 0 0

@@ -1,15 +1,14 @@
-// What a front end or a device links: four functions under C's calling convention, declared for C in include/cavernlull.h. In C a slice is
+// What a front end or a device links: five functions under C's calling convention, declared for C in include/cavernlull.h. In C a slice is
 // a pointer and then a length, and an array is a pointer. Any bytes and any lengths may be lent. What is lent to be changed shares no byte
 // with anything else that is lent in the same call.
 use crate::numbers::REPLY_NUMBERS;
 use listing::LISTING_ROOM;
-use profile::Count;
 use profile::number::DONE;
 use profile::sizes::HANDLE_BYTES;
 use profile::sizes::KEY_BYTES;
 use request_writer::given::Plain;
 
-mod numbers; // numbers.rt: a reply as ten numbers
+mod numbers; // numbers.rt: a reply as eleven numbers
 
 ghost use mathlib.Core.Path.{_≡_};
 ghost use lib.ListN.{length};
@@ -17,8 +16,10 @@ ghost use Rattle.profile.specs.Agent.{agent as agentOf};
 ghost use Rattle.profile.specs.Bytes.{over};
 ghost use Rattle.profile.specs.Device.{fieldsWith, write};
 ghost use Rattle.profile.specs.Listing.{listing};
+ghost use Rattle.profile.specs.Turning.{turn as turnOf};
 ghost use Rattle.agent.specs.Call.{outcome, callOf};
 ghost use Rattle.request_writer.specs.Writing.{wrote};
+ghost use Rattle.turning.specs.Turns.{turned};
 ghost use Rattle.cavernlull.specs.Numbers.{left, ReadsInto};
 
 // The card agent (PROFILE 1.1): answers one request frame. With 0 the reply stands at the start of `reply`, whose other bytes stay, and
@@ -31,7 +32,7 @@ pub extern "C" fn cavernlull_call(table: &mut [u8], frame: &[u8], reply: &mut [u
 }
 
 // The request writer of a device (PROFILE 6.2): takes a kind and the fields of all kinds, of which those that the kind lacks must be zero or
-// empty. With 0 the frame stands at the start of `out`, whose other bytes stay. With 202 or 201 nothing is changed.
+// empty. A count is a number and, beside it, whether one is kept. With 0 the frame stands at the start of `out`, whose other bytes stay. With 202 or 201 nothing is changed.
 #[no_mangle]
 pub extern "C" fn cavernlull_write_request(
     kind: u8,
@@ -39,13 +40,14 @@ pub extern "C" fn cavernlull_write_request(
     new: &[u8; HANDLE_BYTES],
     key: &[u8; KEY_BYTES],
     room: u16,
-    count: Count,
+    count: u16,
+    kept: u8,
     limit: u16,
     hashes: &[u8],
     payload: &[u8],
     out: &mut [u8],
 ) -> u16
-    ensures { λ r. ⌜ wrote r (now (out .exit)) ≡ write kind (fieldsWith (now (handle .entry)) (now (new .entry)) (now (key .entry)) room count limit (now (hashes .entry)) (now (payload .entry))) (now (out .entry)) ⌝ }
+    ensures { λ r. ⌜ wrote r (now (out .exit)) ≡ write kind (fieldsWith (now (handle .entry)) (now (new .entry)) (now (key .entry)) room count kept limit (now (hashes .entry)) (now (payload .entry))) (now (out .entry)) ⌝ }
 {
     let plain = Plain {
         handle: *handle,
@@ -53,14 +55,15 @@ pub extern "C" fn cavernlull_write_request(
         key: *key,
         room: room,
         count: count,
+        kept: kept,
         limit: limit,
     };
     request_writer::writer::write_request(kind, plain, hashes, payload, out)
 }
 
-// The reply reader of a device (PROFILE 6.3). With 0 the key and all ten numbers are written: kind, status, count, number of hashes, offset
-// of the hashes, offset of the payload, payload length, more, number of handles, offset of the handles. What the reply lacks is 0. With 203
-// nothing is changed.
+// The reply reader of a device (PROFILE 6.3). With 0 the key and all eleven numbers are written: kind, status, the count's number, number of
+// hashes, offset of the hashes, offset of the payload, payload length, more, number of handles, offset of the handles, whether a count is
+// kept. What the reply lacks is 0. With 203 nothing is changed.
 #[no_mangle]
 pub extern "C" fn cavernlull_read_reply(
     frame: &[u8],
@@ -79,6 +82,15 @@ pub extern "C" fn cavernlull_read_reply(
         *fields = n;
     }
     number
+}
+
+// Turns a table from before counts had their bit (PROFILE 2.7). With 0 each slot with a count has the bit, and no other byte is changed. With
+// 102, and with 103 by the rules of then, nothing is changed.
+#[no_mangle]
+pub extern "C" fn cavernlull_turn(table: &mut [u8]) -> u16
+    ensures { λ r. ⌜ turned r (now (table .exit)) ≡ turnOf (now (table .entry)) ⌝ }
+{
+    turning::turn(table)
 }
 
 // The listing of a table (PROFILE 7.1 and 7.2) at the start of `out`, whose other bytes stay. It gives the listing's length, and refuses

@@ -1,4 +1,4 @@
-// A reply's answer as ten numbers, in the order in which C has them.
+// A reply's answer as eleven numbers, in the order in which C has them.
 use profile::Count;
 use profile::status::SUCCESS;
 use reply_reader::answer::Answer;
@@ -7,16 +7,16 @@ ghost use Prim.Native.Nat.{_<_};
 ghost use Rattle.cavernlull.specs.Numbers.{numbers, Small, ofStatus, ofRight, ofHandles, ofCounted};
 
 // How many numbers tell a reply.
-pub const REPLY_NUMBERS: usize = 10;
+pub const REPLY_NUMBERS: usize = 11;
 
 // A status, or a success without a body or with a key alone.
 fn of_status(kind: u8, status: u8) -> [u16; REPLY_NUMBERS]
     ensures { λ r. ⌜ r ≡ ofStatus kind status ⌝ }
 {
-    [kind as u16, status as u16, 0, 0, 0, 0, 0, 0, 0, 0]
+    [kind as u16, status as u16, 0, 0, 0, 0, 0, 0, 0, 0, 0]
 }
 
-// A right, of kind 3.
+// A right, of kind 3. A count is its number, and last whether one is kept.
 fn of_right(
     count: Count,
     hashes: usize,
@@ -27,10 +27,12 @@ fn of_right(
     requires { ⌜ (hashes < 65536) × («hashes_at» < 65536) × (at < 65536) × (size < 65536) ⌝ }
     ensures { λ r. ⌜ r ≡ ofRight count hashes «hashes_at» at size ⌝ }
 {
+    let number = counts::number_of(count);
+    let kept = counts::kept_bit(count);
     [
         3,
         0,
-        count,
+        number,
         hashes as u16,
         hashes_at as u16,
         at as u16,
@@ -38,6 +40,7 @@ fn of_right(
         0,
         0,
         0,
+        kept as u16,
     ]
 }
 
@@ -46,7 +49,19 @@ fn of_handles(more: bool, handles: usize, at: usize) -> [u16; REPLY_NUMBERS]
     requires { ⌜ (handles < 65536) × (at < 65536) ⌝ }
     ensures { λ r. ⌜ r ≡ ofHandles more handles at ⌝ }
 {
-    [8, 0, 0, 0, 0, 0, 0, more as u16, handles as u16, at as u16]
+    [
+        8,
+        0,
+        0,
+        0,
+        0,
+        0,
+        0,
+        more as u16,
+        handles as u16,
+        at as u16,
+        0,
+    ]
 }
 
 // A count and a payload, of kind 9.
@@ -54,7 +69,21 @@ fn of_counted(count: Count, at: usize, size: usize) -> [u16; REPLY_NUMBERS]
     requires { ⌜ (at < 65536) × (size < 65536) ⌝ }
     ensures { λ r. ⌜ r ≡ ofCounted count at size ⌝ }
 {
-    [9, 0, count, 0, 0, at as u16, size as u16, 0, 0, 0]
+    let number = counts::number_of(count);
+    let kept = counts::kept_bit(count);
+    [
+        9,
+        0,
+        number,
+        0,
+        0,
+        at as u16,
+        size as u16,
+        0,
+        0,
+        0,
+        kept as u16,
+    ]
 }
 
 // The numbers of every answer. What a reply lacks is 0.

@@ -33,8 +33,10 @@ pub struct Fields<'a> {
     pub key: &'a [u8; 16],
     /// The room asked for.
     pub room: u16,
-    /// The count.
+    /// The count number.
     pub count: u16,
+    /// 1 where a count is kept, and 0 where none is.
+    pub kept: u8,
     /// The limit.
     pub limit: u16,
     /// The hashes, one after another.
@@ -77,6 +79,23 @@ impl Driver {
             },
         }
     }
+
+    /// Has `cavernlull_turn` called on this table, and gives its number.
+    ///
+    /// # Panics
+    ///
+    /// Where the driver ends before it has answered.
+    pub fn turn(&mut self, table: &mut [u8]) -> u16 {
+        let commands = &mut self.commands;
+        commands
+            .table(table)
+            .and_then(|()| commands.turn())
+            .and_then(|()| commands.send())
+            .expect("the driver takes the table");
+        let turned = self.answers.turned();
+        table.copy_from_slice(&turned.table);
+        turned.number
+    }
 }
 
 /// The driver's standard input. Dropping it ends the driver.
@@ -111,7 +130,8 @@ impl Commands {
     /// Where the driver has ended.
     pub fn write_request(&mut self, kind: u8, fields: &Fields<'_>, out: &[u8]) -> Result<()> {
         self.0.write_all(b"w")?;
-        for number in [kind.into(), fields.room, fields.count, fields.limit] {
+        let (kind, kept) = (kind.into(), fields.kept.into());
+        for number in [kind, fields.room, fields.count, kept, fields.limit] {
             self.number(number.into())?;
         }
         self.string(fields.handle)?;
@@ -142,6 +162,15 @@ impl Commands {
     pub fn list(&mut self, out: &[u8]) -> Result<()> {
         self.0.write_all(b"l")?;
         self.string(out)
+    }
+
+    /// Has `cavernlull_turn` called on the table; the answer is a [`Turned`].
+    ///
+    /// # Errors
+    ///
+    /// Where the driver has ended.
+    pub fn turn(&mut self) -> Result<()> {
+        self.0.write_all(b"u")
     }
 
     /// Sends what has not been sent yet.
@@ -208,8 +237,8 @@ impl Written {
     }
 }
 
-/// The ten numbers of a reply.
-pub type Numbers = [u16; 10];
+/// The eleven numbers of a reply.
+pub type Numbers = [u16; 11];
 
 /// What a call of `cavernlull_read_reply` gave, and what it left.
 #[derive(Debug, PartialEq, Eq)]
@@ -218,7 +247,7 @@ pub struct Read {
     pub number: u16,
     /// The key.
     pub key: [u8; 16],
-    /// The ten numbers.
+    /// The eleven numbers.
     pub numbers: Numbers,
 }
 
@@ -260,6 +289,27 @@ impl Listed {
             return Err(format!("its listing has {given} bytes and not {wanted}"));
         }
         same_bytes("the listing's buffer", &self.out, &expected.out)
+    }
+}
+
+/// What a call of `cavernlull_turn` gave, and what it left.
+#[derive(Debug, PartialEq, Eq)]
+pub struct Turned {
+    /// The number.
+    pub number: u16,
+    /// The whole table.
+    pub table: Vec<u8>,
+}
+
+impl Turned {
+    /// Whether this is exactly the turning expected.
+    ///
+    /// # Errors
+    ///
+    /// A sentence that names the first thing that differs.
+    pub fn same_as(&self, expected: &Turned) -> Same {
+        same_number(self.number, expected.number)?;
+        same_bytes("the table", &self.table, &expected.table)
     }
 }
 
@@ -329,8 +379,8 @@ impl Answers {
         let number = self.number();
         let key = self.string().try_into().expect("a key");
         let bytes = self.string();
-        let mut numbers = [0; 10];
-        assert_eq!(bytes.len(), 2 * numbers.len(), "ten numbers");
+        let mut numbers = Numbers::default();
+        assert_eq!(bytes.len(), 2 * numbers.len(), "eleven numbers");
         for (number, pair) in numbers.iter_mut().zip(bytes.chunks_exact(2)) {
             *number = u16::from_le_bytes([pair[0], pair[1]]);
         }
@@ -350,6 +400,18 @@ impl Answers {
         Listed {
             length: self.number(),
             out: self.string(),
+        }
+    }
+
+    /// The next answer to a turning.
+    ///
+    /// # Panics
+    ///
+    /// Where the driver ends before it has answered.
+    pub fn turned(&mut self) -> Turned {
+        Turned {
+            number: self.number(),
+            table: self.string(),
         }
     }
 

@@ -22,7 +22,7 @@ cast-t6 : tie.Need-cast-t6
 cast-t6 c = search needs
 
 returns : tie.Need-returns
-returns c = ap (λ (x : ℕ). 8 ∷ 0 ∷ 0 ∷ 0 ∷ 0 ∷ 0 ∷ 0 ∷ x ∷ (c .args .handles) ∷ (c .args .at) ∷ []) (as-number (c .args .more))
+returns c = ap (λ (x : ℕ). 8 ∷ 0 ∷ 0 ∷ 0 ∷ 0 ∷ 0 ∷ 0 ∷ x ∷ (c .args .handles) ∷ (c .args .at) ∷ 0 ∷ []) (as-number (c .args .more))
 
 pub of-handles-spec : {M : Type 1} → statement M
 of-handles-spec = tie.close (tie.spec cast-t4 cast-t5 cast-t6 returns)
