@@ -1,7 +1,8 @@
 //! A card: a table of slots, and the agent that answers requests about it.
 
 use crate::archive;
-use crate::{CallError, Error, Listing, Reply, Request, Verdict, REPLY_ROOM, SLOT_BYTES};
+use crate::{CallError, Error, Listing, Reply, Request, TurnError, Verdict};
+use crate::{REPLY_ROOM, SLOT_BYTES};
 use std::fmt;
 
 /// A card, over a table that it owns (`Card`) or is lent
@@ -97,6 +98,41 @@ impl<T: AsRef<[u8]> + AsMut<[u8]>> Card<T> {
     ) -> Result<&'reply [u8], CallError> {
         CallError::of(archive::call(self.table.as_mut(), frame, reply))?;
         Ok(archive::frame_in(reply))
+    }
+
+    /// Turns an old table, once: a table that a version before 3.0.0 wrote, in
+    /// which a count of 0 says that none is kept. Each record whose count is
+    /// not 0 gets the bit that says that one is kept; no other byte changes.
+    ///
+    /// Until it is turned, an old table with a count is
+    /// [not well formed](CallError::TableNotWellFormed) to the agent.
+    ///
+    /// # Errors
+    ///
+    /// Where the bytes are not 1 to 15 slots, or not a well-formed old table.
+    /// A table in which a count is kept is not one: it is not turned again.
+    /// No byte is changed then.
+    ///
+    /// ```
+    /// use cavernlull::{Card, Handle, Reply, Request, TurnError, Verdict, SLOT_BYTES};
+    ///
+    /// // An old image: one right, with a count of 3 and a payload of one byte.
+    /// let mut image = vec![0; SLOT_BYTES];
+    /// image[0] = 0x80;
+    /// image[1..11].fill(7);
+    /// (image[28], image[30], image[192]) = (3, 1, b'!');
+    ///
+    /// let mut card = Card::from(image);
+    /// let query = Request::RightsInformationQuery { handle: Handle([7; 10]) };
+    /// assert!(card.call(&query, Verdict::Held).is_err());
+    /// card.turn()?;
+    /// let told = Reply::Information { count: Some(3), payload: b"!".to_vec() };
+    /// assert_eq!(card.call(&query, Verdict::Held)?, told);
+    /// assert_eq!(card.turn(), Err(TurnError::TableNotWellFormed));
+    /// # Ok::<(), cavernlull::Error>(())
+    /// ```
+    pub fn turn(&mut self) -> Result<(), TurnError> {
+        TurnError::of(archive::turn(self.table.as_mut()))
     }
 
     /// The table.

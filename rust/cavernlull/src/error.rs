@@ -1,4 +1,4 @@
-//! What the agent, the request writer and the reply reader refuse.
+//! What the agent, the request writer, the reply reader and the turning refuse.
 //!
 //! A refusal leaves all lent memory as it was.
 
@@ -16,7 +16,9 @@ pub enum CallError {
     ReplyBufferShort,
     /// 102: the table is not 1 to 15 slots of 4,288 bytes.
     TableLength,
-    /// 103: a slot is not well formed, or two records have the same handle.
+    /// 103: a slot is not well formed, or two records have the same handle. An
+    /// old table is not well formed where it has counts, until it is
+    /// [turned](crate::Card::turn).
     TableNotWellFormed,
     /// 104: the frame has fewer than 4 bytes, or is not 4 bytes and its body
     /// length long.
@@ -36,12 +38,24 @@ pub enum WriteError {
 /// 203: the bytes are not the frame of a reply.
 ///
 /// The frame is not 4 bytes and its body length long, its version is not 1, its
-/// status is over 7, it has a body though its status is not 0, or its status
-/// is 0 and its body is not of its kind's shape.
+/// status is over 7, it has a body though its status is not 0, its status is 0
+/// and its body is not of its kind's shape, the count's bit is set though it is
+/// no success of kind 3 or 9, or it has a count that is not 0 without that bit.
 #[derive(Clone, Copy, Debug, PartialEq, Eq, Hash)]
 pub struct ReadError;
 
-/// Any of these errors, for functions that can meet all three.
+/// An old table was not turned: it is as it was.
+#[derive(Clone, Copy, Debug, PartialEq, Eq, Hash)]
+pub enum TurnError {
+    /// 102: the table is not 1 to 15 slots of 4,288 bytes.
+    TableLength,
+    /// 103: a slot is not well formed by the rules of old tables, or two
+    /// records have the same handle. By these rules no count has a bit, so a
+    /// table that was turned is refused where a count is kept.
+    TableNotWellFormed,
+}
+
+/// Any of these errors, for functions that can meet several.
 #[derive(Clone, Copy, Debug, PartialEq, Eq, Hash)]
 pub enum Error {
     /// The request cannot be written.
@@ -50,6 +64,8 @@ pub enum Error {
     Call(CallError),
     /// The reply cannot be read.
     Read(ReadError),
+    /// The old table cannot be turned.
+    Turn(TurnError),
 }
 
 impl CallError {
@@ -112,6 +128,26 @@ impl ReadError {
     }
 }
 
+impl TurnError {
+    /// The number that the archive gives for this error, 102 or 103.
+    pub const fn number(self) -> u16 {
+        match self {
+            TurnError::TableLength => 102,
+            TurnError::TableNotWellFormed => 103,
+        }
+    }
+
+    /// What a number from the archive means.
+    pub(crate) fn of(number: u16) -> Result<(), TurnError> {
+        Err(match number {
+            0 => return Ok(()),
+            102 => TurnError::TableLength,
+            103 => TurnError::TableNotWellFormed,
+            _ => unknown(number),
+        })
+    }
+}
+
 /// The archive is proved to give no number but those above.
 fn unknown(number: u16) -> ! {
     panic!("the archive gave {number}, which it never does: is it another version's?")
@@ -124,6 +160,7 @@ impl Error {
             Error::Write(error) => error.number(),
             Error::Call(error) => error.number(),
             Error::Read(error) => error.number(),
+            Error::Turn(error) => error.number(),
         }
     }
 }
@@ -156,12 +193,22 @@ impl fmt::Display for ReadError {
     }
 }
 
+impl fmt::Display for TurnError {
+    fn fmt(&self, f: &mut fmt::Formatter<'_>) -> fmt::Result {
+        f.write_str(match self {
+            TurnError::TableLength => "the old table is not 1 to 15 slots of 4,288 bytes",
+            TurnError::TableNotWellFormed => "the table is not a well-formed old table",
+        })
+    }
+}
+
 impl fmt::Display for Error {
     fn fmt(&self, f: &mut fmt::Formatter<'_>) -> fmt::Result {
         match self {
             Error::Write(error) => error.fmt(f),
             Error::Call(error) => error.fmt(f),
             Error::Read(error) => error.fmt(f),
+            Error::Turn(error) => error.fmt(f),
         }
     }
 }
@@ -171,6 +218,8 @@ impl error::Error for CallError {}
 impl error::Error for WriteError {}
 
 impl error::Error for ReadError {}
+
+impl error::Error for TurnError {}
 
 impl error::Error for Error {}
 
@@ -189,5 +238,11 @@ impl From<WriteError> for Error {
 impl From<ReadError> for Error {
     fn from(error: ReadError) -> Error {
         Error::Read(error)
+    }
+}
+
+impl From<TurnError> for Error {
+    fn from(error: TurnError) -> Error {
+        Error::Turn(error)
     }
 }

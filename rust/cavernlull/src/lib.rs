@@ -2,9 +2,10 @@
 //!
 //! A shop loads training courses onto cards as rights; the agent in the card
 //! keeps them in a table of slots, lends them, takes them back and removes
-//! them, by request frames. The agent, the request writer, the reply reader and
-//! the listing are proved code in an archive, `libcavernlull.a`; this crate
-//! gives them the types that Rust expects and adds nothing to what they do.
+//! them, by request frames. The agent, the request writer, the reply reader, the
+//! listing and the turning of old tables are proved code in an archive,
+//! `libcavernlull.a`; this crate gives them the types that Rust expects and
+//! adds nothing to what they do.
 //!
 //! | | |
 //! |---|---|
@@ -13,7 +14,7 @@
 //! | [`Reply`] | what the card answered, read from the frame of a reply |
 //! | [`Listing`] | what is in the slots, as text |
 //! | [`Right`] | what a right holds: [`Key`], count, [hashes](AssetHash), payload |
-//! | [`CallError`], [`WriteError`], [`ReadError`] | what the agent, the writer and the reader refuse |
+//! | [`CallError`], [`WriteError`], [`ReadError`], [`TurnError`] | what the agent, the writer, the reader and the turning refuse |
 //!
 //! # Example
 //!
@@ -78,7 +79,7 @@ mod status;
 mod verdict;
 
 pub use card::Card;
-pub use error::{CallError, Error, ReadError, WriteError};
+pub use error::{CallError, Error, ReadError, TurnError, WriteError};
 pub use kind::Kind;
 pub use listing::Listing;
 pub use reply::Reply;

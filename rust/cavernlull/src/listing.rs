@@ -7,8 +7,9 @@ use std::str;
 
 /// The listing of a table, as the program `cardlist` prints it: a header, then
 /// a line for each slot with its index, its place (`empty`, `reserved`,
-/// `enabled` or `disabled`), hash count, count and payload length. For a table
-/// that the agent would refuse it is one line, `refused 102` or `refused 103`.
+/// `enabled` or `disabled`), hash count, count (0 also where none is kept) and
+/// payload length. For a table that the agent would refuse it is one line,
+/// `refused 102` or `refused 103`.
 ///
 /// ```
 /// use cavernlull::{Card, Handle, Request, Verdict};

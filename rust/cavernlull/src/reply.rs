@@ -1,6 +1,6 @@
 //! Replies, read from their frames.
 
-use crate::archive;
+use crate::archive::{self, Numbers};
 use crate::{AssetHash, Handle, Key, Kind, ReadError, Right, Status};
 use crate::{HANDLE_BYTES, HASH_BYTES, KEY_BYTES};
 
@@ -23,8 +23,8 @@ pub enum Reply {
     },
     /// Kind 9: the count and the payload of a right for use.
     Information {
-        /// The count.
-        count: u16,
+        /// The count, if one is kept.
+        count: Option<u16>,
         /// The payload.
         payload: Vec<u8>,
     },
@@ -53,7 +53,7 @@ impl Reply {
     /// ```
     pub fn read(frame: &[u8]) -> Result<Reply, ReadError> {
         let mut key = [0; KEY_BYTES];
-        let mut numbers = [0; 10];
+        let mut numbers = Numbers::default();
         ReadError::of(archive::read_reply(frame, &mut key, &mut numbers))?;
         let [kind, status] = [numbers[0] as u8, numbers[1] as u8];
         Ok(
@@ -89,8 +89,10 @@ impl Reply {
 
 /// What the success of a kind gives. The numbers are those of
 /// `cavernlull_read_reply`, whose offsets and lengths are within the frame.
-fn success(kind: Kind, frame: &[u8], key: Key, numbers: &[u16; 10]) -> Reply {
-    let [_, _, count, hashes, hashes_at, payload_at, payload, more, handles, handles_at] = *numbers;
+fn success(kind: Kind, frame: &[u8], key: Key, numbers: &Numbers) -> Reply {
+    let [_, _, count, hashes, hashes_at, payload_at, payload, more, handles, handles_at, kept] =
+        *numbers;
+    let count = (kept != 0).then_some(count);
     let part = |at: u16, length: usize| &frame[usize::from(at)..usize::from(at) + length];
     let payload = part(payload_at, usize::from(payload)).to_vec();
     match kind {

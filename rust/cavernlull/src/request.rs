@@ -39,8 +39,9 @@ pub enum Request {
     RightsEnablement {
         /// The handle that the right is lent under.
         handle: Handle,
-        /// The count that the right has from now on.
-        count: u16,
+        /// The count that the right has from now on; `None` where none is
+        /// kept, `Some(0)` where it is used up.
+        count: Option<u16>,
     },
     /// Kind 6: remove a right, for use or lent.
     RightsRemoval {
@@ -130,7 +131,7 @@ impl Request {
             Request::RightsInstallation { handle, right } => {
                 fields.handle = handle.0;
                 fields.key = right.key.0;
-                fields.count = right.count;
+                fields.put_count(right.count);
                 fields.hashes = one_after_another(&right.hashes);
                 fields.payload = &right.payload;
             }
@@ -141,7 +142,7 @@ impl Request {
             }
             Request::RightsEnablement { handle, count } => {
                 fields.handle = handle.0;
-                fields.count = *count;
+                fields.put_count(*count);
             }
             Request::RightsRemoval { handle }
             | Request::HandleRemoval { handle }

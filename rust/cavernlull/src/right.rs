@@ -16,12 +16,35 @@ pub struct AssetHash(pub [u8; HASH_BYTES]);
 pub struct Key(pub [u8; KEY_BYTES]);
 
 /// What a right holds, as it is installed and as it is retrieved.
+///
+/// A right keeps a count, or it keeps none. A count that is used up is still a
+/// count:
+///
+/// ```
+/// use cavernlull::{Card, Handle, Reply, Request, Right, Verdict};
+///
+/// let (course, lent) = (Handle([1; 10]), Handle([2; 10]));
+/// let right = Right { count: Some(1), payload: b"course".to_vec(), ..Right::default() };
+/// let mut card = Card::blank(1);
+/// for request in [
+///     Request::InstallationSetup { handle: course, room: 6 },
+///     Request::RightsInstallation { handle: course, right },
+///     Request::RekQuery { handle: course, new_handle: lent },
+///     Request::RightsEnablement { handle: lent, count: Some(0) },
+/// ] {
+///     card.call(&request, Verdict::Held)?;
+/// }
+/// let query = Request::RightsInformationQuery { handle: lent };
+/// let told = Reply::Information { count: Some(0), payload: b"course".to_vec() };
+/// assert_eq!(card.call(&query, Verdict::Held)?, told);
+/// # Ok::<(), cavernlull::Error>(())
+/// ```
 #[derive(Clone, Debug, Default, PartialEq, Eq)]
 pub struct Right {
     /// The key.
     pub key: Key,
-    /// The count; 0 says that the right keeps no count.
-    pub count: u16,
+    /// The count: `None` where none is kept, `Some(0)` where it is used up.
+    pub count: Option<u16>,
     /// Up to 8 hashes of the assets that the right is for.
     pub hashes: Vec<AssetHash>,
     /// The payload: 1 to 4,096 bytes, which neither card nor library interprets.

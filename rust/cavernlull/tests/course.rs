@@ -1,6 +1,7 @@
 //! One course on its way through a card: set up, installed, listed, lent,
 //! refused a second time and under a handle in use, returned, removed. After
-//! each step the whole table is compared with bytes written by hand.
+//! each step the whole table is compared with bytes written by hand. Then
+//! counts, kept and not, and lists.
 
 use cavernlull::{AssetHash, Card, Handle, Key, Kind, Reply, Request, Right, Status, Verdict};
 use cavernlull::{HASH_BYTES, SLOT_BYTES};
@@ -16,7 +17,7 @@ const DISABLED: u8 = 3;
 fn right() -> Right {
     Right {
         key: Key([0xC5; 16]),
-        count: 0x0102,
+        count: Some(0x0102),
         hashes: vec![AssetHash([0xA1; 20]), AssetHash([0xA2; 20])],
         payload: b"welding, level 2".to_vec(),
     }
@@ -25,10 +26,10 @@ fn right() -> Right {
 /// The bytes of a slot (PROFILE 2.2).
 fn slot(place: u8, handle: Handle, right: &Right, length: usize) -> Vec<u8> {
     let mut slot = vec![0; SLOT_BYTES];
-    slot[0] = place << 6 | (right.hashes.len() as u8) << 2;
+    slot[0] = place << 6 | (right.hashes.len() as u8) << 2 | u8::from(right.count.is_some()) << 1;
     slot[1..11].copy_from_slice(&handle.0);
     slot[11..27].copy_from_slice(&right.key.0);
-    slot[27..29].copy_from_slice(&right.count.to_be_bytes());
+    slot[27..29].copy_from_slice(&right.count.unwrap_or(0).to_be_bytes());
     slot[29..31].copy_from_slice(&(length as u16).to_be_bytes());
     for (hash, bytes) in right.hashes.iter().zip(slot[31..].chunks_mut(HASH_BYTES)) {
         bytes.copy_from_slice(&hash.0);
@@ -91,6 +92,10 @@ fn lend(handle: Handle, new_handle: Handle) -> Request {
     Request::RekQuery { handle, new_handle }
 }
 
+fn give_back(handle: Handle, count: Option<u16>) -> Request {
+    Request::RightsEnablement { handle, count }
+}
+
 fn walk<T: AsRef<[u8]> + AsMut<[u8]>>(card: Card<T>) -> Card<T> {
     let mut desk = Desk { card };
     desk.installs();
@@ -141,10 +146,10 @@ impl<T: AsRef<[u8]> + AsMut<[u8]>> Desk<T> {
     fn takes_back(&mut self) {
         let handle = BORROWER;
         let mut right = right();
-        right.count = 7;
+        right.count = Some(7);
         let returned = [held(ENABLED, BORROWER, &right), reserved(OTHER, 1)];
-        for count in [7, 8] {
-            let reply = self.ask(Request::RightsEnablement { handle, count }, &returned);
+        for count in [Some(7), Some(8), None] {
+            let reply = self.ask(give_back(handle, count), &returned);
             assert_eq!(reply, Reply::Done(Kind::RightsEnablement));
         }
         self.list(&[BORROWER]);
@@ -157,7 +162,7 @@ impl<T: AsRef<[u8]> + AsMut<[u8]>> Desk<T> {
     /// The course is moved off the card, and the reserved slot is given up.
     fn moves_and_removes(&mut self) {
         let mut right = right();
-        right.count = 7;
+        right.count = Some(7);
         let moved = [held(DISABLED, COURSE, &right), reserved(OTHER, 1)];
         let retrieval = Request::RightsRetrieval {
             handle: BORROWER,
@@ -190,6 +195,95 @@ fn a_course_goes_through_a_card_over_a_lent_table() {
     walk(Card::over(table));
     let around = [0xEE; SLOT_BYTES];
     assert!(memory == [&around[..], &[0; 2 * SLOT_BYTES], &around].concat());
+}
+
+/// A card of one slot, with a right that keeps this count.
+fn counted(count: Option<u16>) -> Desk<Vec<u8>> {
+    let mut desk = Desk {
+        card: Card::blank(1),
+    };
+    let right = Right { count, ..right() };
+    let (handle, installed) = (COURSE, held(ENABLED, COURSE, &right));
+    desk.ask(setup(handle, 300), &[reserved(handle, 300)]);
+    desk.ask(Request::RightsInstallation { handle, right }, &[installed]);
+    desk
+}
+
+impl Desk<Vec<u8>> {
+    /// Lends the right out whole from `handle` to `lent`, and asserts that it
+    /// goes out with this count, and that this count stays on the card.
+    fn lends_whole(&mut self, handle: Handle, lent: Handle, count: Option<u16>) {
+        let right = Right { count, ..right() };
+        let slot = held(DISABLED, lent, &right);
+        let retrieval = Request::RightsRetrieval {
+            handle,
+            new_handle: lent,
+        };
+        assert_eq!(self.ask(retrieval, &[slot]), Reply::Right(right));
+    }
+
+    /// Has the right come back with this count, and asserts that the card has
+    /// it and tells it.
+    fn returns(&mut self, handle: Handle, count: Option<u16>) {
+        let right = Right { count, ..right() };
+        let slot = [held(ENABLED, handle, &right)];
+        let reply = self.ask(give_back(handle, count), &slot);
+        assert_eq!(reply, Reply::Done(Kind::RightsEnablement));
+        let Right { count, payload, .. } = right;
+        let information = Request::RightsInformationQuery { handle };
+        let told = Reply::Information { count, payload };
+        assert_eq!(self.ask(information, &slot), told);
+    }
+}
+
+/// The last use of a course is gone: it comes back with a count of 0, and goes
+/// out again with a count of 0. It is no course without a count.
+#[test]
+fn a_count_that_is_used_up_stays_used_up() {
+    let mut desk = counted(Some(1));
+    let slot = held(
+        DISABLED,
+        BORROWER,
+        &Right {
+            count: Some(1),
+            ..right()
+        },
+    );
+    assert_eq!(
+        desk.ask(lend(COURSE, BORROWER), &[slot]),
+        Reply::Key(right().key)
+    );
+    desk.returns(BORROWER, Some(0));
+    desk.lends_whole(BORROWER, COURSE, Some(0));
+    assert_eq!(
+        desk.card.listing().as_str(),
+        "slot place hashes count length\n0 disabled 2 0 16\n"
+    );
+    let removal = Request::RightsRemoval { handle: COURSE };
+    desk.ask(removal, &[empty()]);
+}
+
+/// A right without a count has none when it is lent and returned.
+#[test]
+fn a_right_without_a_count_keeps_none() {
+    let mut desk = counted(None);
+    desk.lends_whole(COURSE, BORROWER, None);
+    desk.returns(BORROWER, None);
+    desk.lends_whole(BORROWER, COURSE, None);
+}
+
+/// A return sets the count, and whether one is kept, as it says.
+#[test]
+fn a_return_says_whether_a_count_is_kept() {
+    let mut desk = counted(Some(u16::MAX));
+    let mut last = Some(u16::MAX);
+    for count in [Some(0), None, Some(0), Some(256), None, Some(1)] {
+        desk.lends_whole(COURSE, BORROWER, last);
+        desk.returns(BORROWER, count);
+        desk.lends_whole(BORROWER, COURSE, count);
+        desk.returns(COURSE, count);
+        last = count;
+    }
 }
 
 /// A limit in bytes cuts the list short, and hashes select from it.

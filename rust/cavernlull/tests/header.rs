@@ -5,14 +5,17 @@ use std::collections::BTreeMap;
 
 const HEADER: &str = include_str!("../../../include/cavernlull.h");
 
-/// The constants of the header: `CAVERNLULL_NAME = NUMBER`.
+/// The constants of the header: `CAVERNLULL_NAME = NUMBER`, the number in
+/// decimal or, after `0x`, in hex.
 fn constants() -> BTreeMap<&'static str, usize> {
     HEADER
         .lines()
         .filter_map(|line| line.trim().strip_prefix("CAVERNLULL_")?.split_once(" = "))
         .map(|(name, rest)| {
-            let digits = rest.split(|c: char| !c.is_ascii_digit()).next();
-            (name, digits.unwrap().parse().expect("a number"))
+            let (base, digits) = rest.strip_prefix("0x").map_or((10, rest), |hex| (16, hex));
+            let digits = digits.split(|c: char| !c.is_digit(base)).next();
+            let number = usize::from_str_radix(digits.unwrap(), base);
+            (name, number.expect("a number"))
         })
         .collect()
 }
@@ -73,7 +76,57 @@ fn errors_are_those_of_the_header() {
         ("WRITER_BUFFER_SHORT", WriteError::BufferShort.number()),
         ("WRITER_FIELDS", WriteError::Fields.number()),
         ("NO_REPLY", ReadError.number()),
+        ("TABLE_LENGTH", TurnError::TableLength.number()),
+        (
+            "TABLE_NOT_WELL_FORMED",
+            TurnError::TableNotWellFormed.number(),
+        ),
     ] {
         assert_eq!(constants.get(name), Some(&number.into()), "{name}");
     }
+}
+
+/// A right with this count, installed in a slot.
+fn installed(count: Option<u16>) -> (Vec<u8>, Card) {
+    let handle = Handle([1; 10]);
+    let payload = vec![7];
+    let right = Right {
+        count,
+        payload,
+        ..Right::default()
+    };
+    let installation = Request::RightsInstallation { handle, right };
+    let mut card = Card::blank(1);
+    for request in [
+        Request::InstallationSetup { handle, room: 1 },
+        installation.clone(),
+    ] {
+        let reply = card.call(&request, Verdict::Held).unwrap();
+        assert_eq!(reply.status(), Status::Success);
+    }
+    (installation.to_frame().unwrap(), card)
+}
+
+/// A kept count of 0 and no count differ in one bit of a slot, of a request and
+/// of a reply: those that the header names.
+#[test]
+fn the_bits_of_a_kept_count_are_those_of_the_header() {
+    let constants = constants();
+    let ((kept, mut kept_card), (none, mut none_card)) = (installed(Some(0)), installed(None));
+    let mut query = [1; 14];
+    query[..4].copy_from_slice(&[0x29, 0x80, 0, 10]);
+    let mut replies = [[0; REPLY_ROOM]; 2];
+    for (name, at, with, without) in [
+        ("KEPT_IN_REQUEST", 1, &kept[..], &none[..]),
+        ("KEPT_IN_SLOT", 0, kept_card.table(), none_card.table()),
+    ] {
+        let mut expected = without.to_vec();
+        expected[at] |= constants[name] as u8;
+        assert!(with == expected && with != without, "{name}");
+    }
+    let [with, without] = &mut replies;
+    kept_card.call_frame(&query, with).unwrap();
+    none_card.call_frame(&query, without).unwrap();
+    without[1] |= constants["KEPT_IN_REPLY"] as u8;
+    assert!(with == without && with[1] != 0);
 }

@@ -3,7 +3,7 @@
 
 use cavernlull::{AssetHash, CallError, Card, Error, Handle, Listing, ReadError, Reply};
 use cavernlull::{
-    Request, Right, Status, Verdict, WriteError, REPLY_ROOM, REQUEST_ROOM, SLOT_BYTES,
+    Request, Right, Status, TurnError, Verdict, WriteError, REPLY_ROOM, REQUEST_ROOM, SLOT_BYTES,
 };
 
 const HANDLE: Handle = Handle([1; 10]);
@@ -93,6 +93,82 @@ fn the_reply_is_at_the_start_of_the_buffer() {
     assert!(buffer[4..].iter().all(|&byte| byte == 0xA5));
 }
 
+/// What a card answers to a frame.
+fn answer<T: AsRef<[u8]> + AsMut<[u8]>>(card: &mut Card<T>, frame: &[u8]) -> Vec<u8> {
+    let mut buffer = [0; REPLY_ROOM];
+    card.call_frame(frame, &mut buffer).unwrap().to_vec()
+}
+
+/// A count that is not 0 without its bit is refused with 2 before anything is
+/// looked up, and leaves the table as it was (PROFILE 5.2, 5.5).
+#[test]
+fn a_count_without_its_bit_is_refused() {
+    for (request, count_at) in [
+        (installation(0, 5), 30),
+        (
+            Request::RightsEnablement {
+                handle: HANDLE,
+                count: None,
+            },
+            14,
+        ),
+    ] {
+        let mut card = Card::blank(1);
+        let kind = 0x20 | request.kind().number();
+        let mut frame = request.to_frame().unwrap();
+        assert_eq!(answer(&mut card, &frame), [kind, 4, 0, 0]);
+        for at in [count_at, count_at + 1] {
+            frame[at] = 1;
+            assert_eq!(answer(&mut card, &frame), [kind, 2, 0, 0]);
+            frame[1] |= 0x40;
+            assert_eq!(answer(&mut card, &frame), [kind, 4, 0, 0]);
+            frame[1] &= !0x40;
+            frame[at] = 0;
+        }
+        assert!(card.table().iter().all(|&byte| byte == 0));
+    }
+}
+
+/// The count's bit of a request is a zero bit of every kind but 2 and 5.
+#[test]
+fn the_bit_of_another_kind_is_refused() {
+    for kind in (0..32).filter(|kind| ![2, 5].contains(kind)) {
+        let frame = [0x20 | kind, 0xC0, 0, 0];
+        let reply = answer(&mut Card::blank(1), &frame);
+        assert_eq!(reply, [0x20 | kind, 2, 0, 0]);
+    }
+}
+
+/// A count that is not 0 without its bit makes a table no table.
+#[test]
+fn a_table_has_no_count_without_its_bit() {
+    let mut card = Card::blank(1);
+    for request in [setup(), installation(0, 5)] {
+        card.call(&request, Verdict::Held).unwrap();
+    }
+    let frame = setup().to_frame().unwrap();
+    let refused = |table: &[u8]| {
+        assert_refused(table, &frame, REPLY_ROOM, CallError::TableNotWellFormed);
+        assert_eq!(Listing::of(table).as_str(), "refused 103\n");
+    };
+    let mut table = card.into_table();
+    for at in [27, 28] {
+        table[at] = 1;
+        refused(&table);
+        table[0] |= 2;
+        assert_eq!(answer(&mut Card::over(&mut table), &frame), [0x21, 5, 0, 0]);
+        table[0] |= 1;
+        refused(&table);
+        (table[0], table[at]) = (0x80, 0);
+    }
+    let mut reserved = Card::blank(1);
+    reserved.call(&setup(), Verdict::Held).unwrap();
+    for mut table in [reserved.into_table(), vec![0; SLOT_BYTES]] {
+        table[0] |= 2;
+        refused(&table);
+    }
+}
+
 /// Cases 1 to 4 and 13 of the card profile (PROFILE 9), by their bytes.
 #[test]
 fn statuses_are_replies_and_no_errors() {
@@ -100,10 +176,7 @@ fn statuses_are_replies_and_no_errors() {
     let failed = card.call(&setup(), Verdict::Failed).unwrap();
     assert_eq!(failed.status(), Status::FieldIntegrityVerificationFailed);
     assert!(card.table().iter().all(|&byte| byte == 0));
-    let mut ask = |frame: &[u8]| {
-        let mut buffer = [0; REPLY_ROOM];
-        card.call_frame(frame, &mut buffer).unwrap().to_vec()
-    };
+    let mut ask = |frame: &[u8]| answer(&mut card, frame);
     let frame = setup().to_frame().unwrap();
     assert_eq!(frame[..4], [0x21, 0x80, 0, 0x0C]);
     assert_eq!(frame[4..14], [1; 10]);
@@ -154,6 +227,30 @@ fn the_reader_refuses_what_is_no_reply() {
     assert_eq!((unknown.kind_number(), unknown.status().number()), (31, 3));
 }
 
+/// The count's bit is for the successes of kinds 3 and 9 alone, and a count
+/// that is not 0 has it (PROFILE 6.3).
+#[test]
+fn the_reader_takes_the_bit_of_a_count_only_where_one_is_told() {
+    let told = |second, count| Reply::read(&[0x29, second, 0, 3, 0, count, b'!']);
+    for (second, number, count) in [(0, 0, None), (0x80, 0, Some(0)), (0x80, 9, Some(9))] {
+        let payload = vec![b'!'];
+        let expected = Reply::Information { count, payload };
+        assert_eq!(told(second, number), Ok(expected));
+    }
+    assert_eq!(told(0, 9), Err(ReadError));
+    for kind in 0..32 {
+        for status in 0..=255 {
+            let frame = [0x20 | kind, status | 0x80, 0, 0];
+            assert_eq!(Reply::read(&frame), Err(ReadError), "{frame:02x?}");
+        }
+    }
+    let key = [
+        0x24, 0x80, 0, 16, 0, 0, 0, 0, 0, 0, 0, 0, 0, 0, 0, 0, 0, 0, 0, 0,
+    ];
+    assert_eq!(Reply::read(&key), Err(ReadError));
+    assert_eq!(Reply::read(&[0x28, 0x80, 0, 1, 0]), Err(ReadError));
+}
+
 #[test]
 fn errors_are_errors_with_their_numbers() {
     let calls = [
@@ -165,8 +262,9 @@ fn errors_are_errors_with_their_numbers() {
     let mut errors: Vec<Error> = calls.map(Error::from).to_vec();
     errors.extend([WriteError::BufferShort, WriteError::Fields].map(Error::from));
     errors.push(ReadError.into());
+    errors.extend([TurnError::TableLength, TurnError::TableNotWellFormed].map(Error::from));
     let numbers: Vec<u16> = errors.iter().map(|error| error.number()).collect();
-    assert_eq!(numbers, [101, 102, 103, 104, 201, 202, 203]);
+    assert_eq!(numbers, [101, 102, 103, 104, 201, 202, 203, 102, 103]);
     for error in errors {
         let error: Box<dyn std::error::Error + Send + Sync> = error.into();
         assert!(error.to_string().starts_with("the "), "{error}");

@@ -2,7 +2,7 @@
 //! tests and demonstrations. One driver serves the whole program, one command
 //! at a time, and ends with it.
 
-use super::Fields;
+use super::{Fields, Numbers};
 use crate::{KEY_BYTES, LISTING_ROOM};
 use driver::{Answers, Commands, Driver};
 use std::io::Result;
@@ -45,6 +45,7 @@ pub(crate) fn write_request(kind: u8, fields: &Fields<'_>, out: &mut [u8]) -> u1
         key: &fields.key,
         room: fields.room,
         count: fields.count,
+        kept: fields.kept,
         limit: fields.limit,
         hashes: &fields.hashes,
         payload: fields.payload,
@@ -58,7 +59,7 @@ pub(crate) fn write_request(kind: u8, fields: &Fields<'_>, out: &mut [u8]) -> u1
 }
 
 /// `cavernlull_read_reply`.
-pub(crate) fn read_reply(frame: &[u8], key: &mut [u8; KEY_BYTES], numbers: &mut [u16; 10]) -> u16 {
+pub(crate) fn read_reply(frame: &[u8], key: &mut [u8; KEY_BYTES], numbers: &mut Numbers) -> u16 {
     let given = ask(
         |commands| commands.read_reply(frame, key, numbers),
         Answers::read,
@@ -79,4 +80,17 @@ pub(crate) fn list(table: &[u8], out: &mut [u8; LISTING_ROOM]) -> usize {
     );
     out.copy_from_slice(&given.out);
     given.length.into()
+}
+
+/// `cavernlull_turn`.
+pub(crate) fn turn(table: &mut [u8]) -> u16 {
+    let given = ask(
+        |commands| {
+            commands.table(table)?;
+            commands.turn()
+        },
+        Answers::turned,
+    );
+    table.copy_from_slice(&given.table);
+    given.number
 }

@@ -4,14 +4,17 @@
 #[cfg(target_arch = "x86_64")]
 mod sys;
 #[cfg(target_arch = "x86_64")]
-pub(crate) use sys::{call, list, read_reply, write_request};
+pub(crate) use sys::{call, list, read_reply, turn, write_request};
 
 #[cfg(not(target_arch = "x86_64"))]
 mod driven;
 #[cfg(not(target_arch = "x86_64"))]
-pub(crate) use driven::{call, list, read_reply, write_request};
+pub(crate) use driven::{call, list, read_reply, turn, write_request};
 
 use crate::{HANDLE_BYTES, KEY_BYTES};
+
+/// The numbers that the reply reader writes.
+pub(crate) type Numbers = [u16; 11];
 
 /// The fields of a request of any kind. Those that the kind lacks are zero or
 /// empty.
@@ -22,9 +25,19 @@ pub(crate) struct Fields<'a> {
     pub key: [u8; KEY_BYTES],
     pub room: u16,
     pub count: u16,
+    pub kept: u8,
     pub limit: u16,
     pub hashes: Vec<u8>,
     pub payload: &'a [u8],
+}
+
+impl Fields<'_> {
+    /// Puts in a count as the archive takes it: a number, 0 where none is
+    /// kept, and whether one is.
+    pub(crate) fn put_count(&mut self, count: Option<u16>) {
+        self.count = count.unwrap_or(0);
+        self.kept = count.is_some().into();
+    }
 }
 
 /// The frame that the archive has written at the start of a buffer: 4 bytes, of

@@ -8,7 +8,7 @@
 
 #![allow(unsafe_code)]
 
-use super::Fields;
+use super::{Fields, Numbers};
 use crate::{KEY_BYTES, LISTING_ROOM};
 
 extern "C" {
@@ -28,6 +28,7 @@ extern "C" {
         key: *const u8,
         room: u16,
         count: u16,
+        kept: u8,
         limit: u16,
         hashes: *const u8,
         hashes_length: usize,
@@ -45,6 +46,8 @@ extern "C" {
     ) -> u16;
 
     fn cavernlull_list(table: *const u8, table_length: usize, out: *mut u8) -> usize;
+
+    fn cavernlull_turn(table: *mut u8, table_length: usize) -> u16;
 }
 
 /// `cavernlull_call`.
@@ -76,6 +79,7 @@ pub(crate) fn write_request(kind: u8, fields: &Fields<'_>, out: &mut [u8]) -> u1
             fields.key.as_ptr(),
             fields.room,
             fields.count,
+            fields.kept,
             fields.limit,
             fields.hashes.as_ptr(),
             fields.hashes.len(),
@@ -88,9 +92,9 @@ pub(crate) fn write_request(kind: u8, fields: &Fields<'_>, out: &mut [u8]) -> u1
 }
 
 /// `cavernlull_read_reply`.
-pub(crate) fn read_reply(frame: &[u8], key: &mut [u8; KEY_BYTES], numbers: &mut [u16; 10]) -> u16 {
+pub(crate) fn read_reply(frame: &[u8], key: &mut [u8; KEY_BYTES], numbers: &mut Numbers) -> u16 {
     // SAFETY: the frame's pointer is that of a slice, with its length; `key`
-    // and `numbers` are arrays of the 16 bytes and ten numbers that the
+    // and `numbers` are arrays of the 16 bytes and eleven numbers that the
     // function writes, and are borrowed to be changed, so nothing overlaps.
     unsafe {
         cavernlull_read_reply(
@@ -108,4 +112,11 @@ pub(crate) fn list(table: &[u8], out: &mut [u8; LISTING_ROOM]) -> usize {
     // is an array of the 406 bytes that the function may write, and is
     // borrowed to be changed, so it does not overlap the table.
     unsafe { cavernlull_list(table.as_ptr(), table.len(), out.as_mut_ptr()) }
+}
+
+/// `cavernlull_turn`.
+pub(crate) fn turn(table: &mut [u8]) -> u16 {
+    // SAFETY: the pointer is that of a slice, with its length, which is
+    // borrowed to be changed.
+    unsafe { cavernlull_turn(table.as_mut_ptr(), table.len()) }
 }
