@@ -2,7 +2,7 @@
 
 use crate::frame::kind_bits;
 use crate::number::{DONE, NO_FRAME, REPLY_BUFFER_SHORT};
-use crate::reply::{handles_body, information_body, reply_frame};
+use crate::reply::{handles_body, information_body, reply_frame, Success};
 use crate::request::content_of;
 use crate::slot::{self, Place, SlotBytes};
 use crate::table;
@@ -13,11 +13,8 @@ use crate::{HANDLE_BYTES, MAX_PAYLOAD};
 /// retrieves a right of 8 hashes and 4,096 payload bytes.
 pub const REPLY_ROOM: usize = 4279;
 
-/// The body of a success, or the status of a refusal.
-type Outcome = Result<Vec<u8>, Status>;
-
-/// The body of a success that has nothing to give.
-const NO_BODY: Vec<u8> = Vec::new();
+/// What a success gives, or the status of a refusal.
+type Outcome = Result<Success, Status>;
 
 /// One call of the card agent.
 ///
@@ -63,7 +60,7 @@ fn carry_out(slots: &mut [SlotBytes], request: &Request<'_>) -> Outcome {
         Kind::RightsEnablement => enable(slots, fields),
         Kind::RightsRemoval => remove_right(slots, fields),
         Kind::HandleRemoval => remove_handle(slots, fields),
-        Kind::HandleListQuery => Ok(list_handles(slots, fields)),
+        Kind::HandleListQuery => Ok(Success::with_body(list_handles(slots, fields))),
         Kind::RightsInformationQuery => inform(slots, fields),
     }
 }
@@ -81,13 +78,14 @@ fn set_up(slots: &mut [SlotBytes], fields: &Fields<'_>) -> Outcome {
     }
     let index = table::lowest_empty(slots).ok_or(Status::NotEnoughSpace)?;
     slot::reserve(&mut slots[index], &fields.handle, fields.length);
-    Ok(NO_BODY)
+    Ok(Success::default())
 }
 
 /// Kind 2 (PROFILE 5.2), after its field tests: status 4 for an unknown
 /// handle, then 6 where the record is not reserved, then 7 for a payload longer
 /// than the room reserved. A success enables the record with the request's
-/// fields, and with the payload's length as its length.
+/// fields, whether a count is kept among them, and with the payload's length as
+/// its length.
 fn install(slots: &mut [SlotBytes], fields: &Fields<'_>) -> Outcome {
     let slot = record(slots, &fields.handle)?;
     expect(slot::place(slot) == Place::Reserved)?;
@@ -95,21 +93,23 @@ fn install(slots: &mut [SlotBytes], fields: &Fields<'_>) -> Outcome {
         return Err(Status::NotEnoughSpace);
     }
     slot::fill(slot, &content_of(fields));
-    Ok(NO_BODY)
+    Ok(Success::default())
 }
 
-/// Kind 3 (PROFILE 5.3): lends the right; the body is its content.
+/// Kind 3 (PROFILE 5.3): lends the right; the body is its content, and the head
+/// says whether a count is kept.
 fn retrieve(slots: &mut [SlotBytes], fields: &Fields<'_>) -> Outcome {
-    let slot = lend(slots, fields)?;
+    let content = slot::content(lend(slots, fields)?);
     let mut body = Vec::new();
-    slot::content(slot).write_to(&mut body);
-    Ok(body)
+    content.write_to(&mut body);
+    let kept = content.count.is_kept();
+    Ok(Success { kept, body })
 }
 
 /// Kind 4 (PROFILE 5.4): lends the right; the body is its key.
 fn query_rek(slots: &mut [SlotBytes], fields: &Fields<'_>) -> Outcome {
     let slot = lend(slots, fields)?;
-    Ok(slot::key(slot).to_vec())
+    Ok(Success::with_body(slot::key(slot).to_vec()))
 }
 
 /// Kinds 3 and 4: status 4 for an unknown handle, then 6 where the record is
@@ -126,14 +126,14 @@ fn lend<'a>(slots: &'a mut [SlotBytes], fields: &Fields<'_>) -> Result<&'a mut S
 
 /// Kind 5 (PROFILE 5.5): status 4 for an unknown handle, then 6 where the
 /// record is reserved. A success enables a disabled record with the request's
-/// count, and leaves an enabled one as it is.
+/// count, kept or not, and leaves an enabled one as it is.
 fn enable(slots: &mut [SlotBytes], fields: &Fields<'_>) -> Outcome {
     let slot = record(slots, &fields.handle)?;
     expect(slot::place(slot) != Place::Reserved)?;
     if slot::place(slot) == Place::Disabled {
         slot::enable(slot, fields.count);
     }
-    Ok(NO_BODY)
+    Ok(Success::default())
 }
 
 /// Kind 6 (PROFILE 5.6): status 4 for an unknown handle, then 6 where the
@@ -142,7 +142,7 @@ fn remove_right(slots: &mut [SlotBytes], fields: &Fields<'_>) -> Outcome {
     let slot = record(slots, &fields.handle)?;
     expect(slot::place(slot) != Place::Reserved)?;
     slot::clear(slot);
-    Ok(NO_BODY)
+    Ok(Success::default())
 }
 
 /// Kind 7 (PROFILE 5.7): status 4 for an unknown handle, then 6 where the
@@ -151,7 +151,7 @@ fn remove_handle(slots: &mut [SlotBytes], fields: &Fields<'_>) -> Outcome {
     let slot = record(slots, &fields.handle)?;
     expect(slot::place(slot) == Place::Reserved)?;
     slot::clear(slot);
-    Ok(NO_BODY)
+    Ok(Success::default())
 }
 
 /// Kind 8 (PROFILE 5.8), after its field tests: lists the first handles that
@@ -179,11 +179,15 @@ fn wanted_handles(slots: &[SlotBytes], hashes: &[u8]) -> Vec<Handle> {
 }
 
 /// Kind 9 (PROFILE 5.9): status 4 for an unknown handle, then 6 where the
-/// record is not enabled. The body is its count and its payload.
+/// record is not enabled. The body is its count and its payload, and the head
+/// says whether the count is kept.
 fn inform(slots: &mut [SlotBytes], fields: &Fields<'_>) -> Outcome {
     let slot = record(slots, &fields.handle)?;
     expect(slot::place(slot) == Place::Enabled)?;
-    Ok(information_body(slot::count(slot), slot::payload(slot)))
+    let count = slot::count(slot);
+    let body = information_body(count, slot::payload(slot));
+    let kept = count.is_kept();
+    Ok(Success { kept, body })
 }
 
 /// The slot of the record under the request's handle.

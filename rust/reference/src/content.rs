@@ -2,11 +2,12 @@
 //!
 //! The body of a request of kind 2 is a handle and then the content
 //! (PROFILE 3.3); the body of a successful reply of kind 3 is the content alone
-//! (PROFILE 3.4). The content is the key, the count, a byte with the hash count
-//! in its four high bits and zeros in the others, the hashes, and the payload.
+//! (PROFILE 3.4). The content is the key, the count number, a byte with the hash
+//! count in its four high bits and zeros in the others, the hashes, and the
+//! payload. The count's bit travels in the head of the frame.
 
 use crate::bytes::{array_at, u16_at};
-use crate::{Key, HASH_BYTES, MAX_HASHES, MAX_PAYLOAD};
+use crate::{Count, Key, HASH_BYTES, MAX_HASHES, MAX_PAYLOAD};
 
 /// Key, count, and the byte with the hash count.
 const HEAD_BYTES: usize = 19;
@@ -18,32 +19,34 @@ const HASH_COUNT_AT: usize = 18;
 #[derive(Clone, Copy, Debug, PartialEq, Eq)]
 pub(crate) struct Content<'a> {
     pub key: Key,
-    pub count: u16,
+    pub count: Count,
     pub hashes: &'a [u8],
     pub payload: &'a [u8],
 }
 
 impl<'a> Content<'a> {
-    /// Reads a content that fills all of `bytes`; `None` where the hash count
+    /// Reads a content that fills all of `bytes`, where the frame's head has the
+    /// bit `kept`; `None` where there is a count without its bit, the hash count
     /// is over 8, one of the four zero bits is set, or the payload is not 1 to
     /// 4,096 bytes. Hashes that overrun `bytes` leave no payload, so they are
     /// refused as well.
-    pub fn read(bytes: &'a [u8]) -> Option<Self> {
+    pub fn read(bytes: &'a [u8], kept: bool) -> Option<Self> {
         let (head, rest) = bytes.split_at_checked(HEAD_BYTES)?;
+        let count = Count::said(kept, u16_at(head, COUNT_AT))?;
         let hash_count = read_hash_count(head[HASH_COUNT_AT])?;
         let (hashes, payload) = rest.split_at_checked(HASH_BYTES * hash_count)?;
         payload_length_is_right(payload.len()).then_some(Content {
             key: array_at(head, 0),
-            count: u16_at(head, COUNT_AT),
+            count,
             hashes,
             payload,
         })
     }
 
-    /// Appends this content to `out`.
+    /// Appends this content to `out`, all but the count's bit.
     pub fn write_to(&self, out: &mut Vec<u8>) {
         out.extend(self.key);
-        out.extend(self.count.to_be_bytes());
+        out.extend(self.count.number().to_be_bytes());
         out.push(hash_count(self.hashes) << 4);
         out.extend(self.hashes);
         out.extend(self.payload);

@@ -62,6 +62,12 @@ impl Kind {
         }
     }
 
+    /// Whether a request of this kind has a count, and so a bit in its head that
+    /// says whether one is kept (PROFILE 3.1).
+    pub(crate) fn has_count(self) -> bool {
+        matches!(self, Kind::RightsInstallation | Kind::RightsEnablement)
+    }
+
     /// Whether a verdict of 0 is status 1 for this kind: kinds 8 and 9 ignore
     /// the verdict (PROFILE 4.3).
     pub(crate) fn heeds_verdict(self) -> bool {

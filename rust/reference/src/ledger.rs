@@ -6,7 +6,7 @@
 //! compares a table with it.
 
 use crate::slot::{self, Place, SlotBytes};
-use crate::{table, Fields, Handle, Key, Kind, Request, Status};
+use crate::{table, Count, Fields, Handle, Key, Kind, Request, Status};
 
 /// Whether a right is for use, lent or gone.
 #[derive(Clone, Copy, Debug, PartialEq, Eq)]
@@ -29,8 +29,8 @@ pub struct Right {
     pub handle: Handle,
     /// The key (REK).
     pub key: Key,
-    /// The count.
-    pub count: u16,
+    /// The count: whether one is kept, and which.
+    pub count: Count,
     /// The asset hashes, one after another.
     pub hashes: Vec<u8>,
     /// The payload.
@@ -224,7 +224,7 @@ struct Record {
     place: Place,
     handle: Handle,
     key: Key,
-    count: u16,
+    count: Count,
     length: usize,
     hashes: Vec<u8>,
     payload: Vec<u8>,
@@ -242,7 +242,7 @@ fn record_of_setup(setup: &Setup) -> Record {
         place: Place::Reserved,
         handle: setup.handle,
         key: Key::default(),
-        count: 0,
+        count: Count::NotKept,
         length: setup.length.into(),
         hashes: Vec::new(),
         payload: Vec::new(),

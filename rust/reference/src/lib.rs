@@ -16,6 +16,7 @@
 //! | [`listing`] | what the program `cardlist` prints | 7 |
 //! | [`ledger`] | the history of rights, told by requests and statuses | 8 |
 //! | [`table`], [`slot`] | well-formedness, and one accessor for each field | 2 |
+//! | [`turn`] | the turning of tables from before a count had its bit | 2.7 |
 //!
 //! # How it is built
 //!
@@ -33,9 +34,9 @@
 //! Case 1 of the card profile (PROFILE 9.1), on a blank table of one slot:
 //!
 //! ```
-//! use reference::{call, listing, write_request, Fields, REPLY_ROOM, SLOT_BYTES};
+//! use reference::{call, listing, write_request, WriterFields, REPLY_ROOM, SLOT_BYTES};
 //!
-//! let fields = Fields { handle: [1; 10], length: 5, ..Fields::default() };
+//! let fields = WriterFields { handle: [1; 10], length: 5, ..WriterFields::default() };
 //! let mut frame = [0; 16];
 //! assert_eq!(write_request(1, &fields, &mut frame), 0);
 //!
@@ -55,6 +56,7 @@
 mod agent;
 mod bytes;
 mod content;
+mod count;
 mod frame;
 mod kind;
 pub mod ledger;
@@ -65,15 +67,18 @@ mod request;
 pub mod slot;
 mod status;
 pub mod table;
+mod turning;
 
 pub use agent::{call, REPLY_ROOM};
+pub use count::Count;
 pub use kind::Kind;
 pub use listing::listing;
 pub use reply::{read_reply, Reply, ReplyFields};
-pub use request::{read_request, write_request, Fields, ReadRequest, Request};
+pub use request::{read_request, write_request, Fields, ReadRequest, Request, WriterFields};
 pub use slot::{Place, SLOT_BYTES};
 pub use status::Status;
 pub use table::{well_formed, MAX_SLOTS};
+pub use turning::turn;
 
 /// A handle: any ten bytes, zeros included (PROFILE 2.6).
 pub type Handle = [u8; HANDLE_BYTES];

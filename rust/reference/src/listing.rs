@@ -8,7 +8,8 @@ const HEADER: &str = "slot place hashes count length\n";
 /// The output for a table: a header, then a line for each slot with its index
 /// (counted from 0), its place as a word, and its hash count, count and payload
 /// length in decimal, with one space between two of them (PROFILE 7.1). A
-/// reserved slot's length is the room asked for.
+/// reserved slot's length is the room asked for; a count is shown as its number,
+/// which is 0 both where none is kept and where it is used up.
 ///
 /// A table that is refused has one line instead, `refused 102` or
 /// `refused 103`; 102 is tested first (PROFILE 7.2). Every line ends with a
@@ -34,7 +35,7 @@ fn line(index: usize, slot: &SlotBytes) -> String {
         "{index} {} {} {} {}\n",
         slot::place(slot).word(),
         slot::hash_count(slot),
-        slot::count(slot),
+        slot::count_number(slot),
         slot::length(slot)
     )
 }

@@ -1,6 +1,6 @@
 //! The numbers that functions give back.
 
-/// The call wrote a reply, or the writer wrote a request.
+/// The call wrote a reply, the writer wrote a request, or the table was turned.
 pub const DONE: u16 = 0;
 
 /// The reply buffer has fewer than 4,279 bytes (PROFILE 4.1).
@@ -21,7 +21,8 @@ pub const WRITER_BUFFER_SHORT: u16 = 201;
 
 /// The writer cannot write these fields (PROFILE 6.2): the kind is not 1 to 9,
 /// the hashes are not 0 to 8 times 20 bytes, the payload of kind 2 is not 1 to
-/// 4,096 bytes, or a field that the kind lacks is not zero or empty.
+/// 4,096 bytes, count and `kept` say no count, or a field that the kind lacks is
+/// not zero or empty.
 pub const WRITER_FIELDS: u16 = 202;
 
 /// The reply reader was not given a reply (PROFILE 6.3).

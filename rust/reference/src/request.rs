@@ -4,14 +4,18 @@ use crate::bytes::{array_at, u16_at};
 use crate::content::{hash_count, payload_length_is_right, Content};
 use crate::frame::{self, Frame};
 use crate::number::{DONE, WRITER_BUFFER_SHORT, WRITER_FIELDS};
-use crate::{Handle, Key, Kind, Status, HANDLE_BYTES, HASH_BYTES, MAX_HASHES};
+use crate::{Count, Handle, Key, Kind, Status, HANDLE_BYTES, HASH_BYTES, MAX_HASHES};
 
 /// The verdict bit in the second byte of a request, set where the MAC held
 /// (PROFILE 3.1).
 const VERDICT: u8 = 0b1000_0000;
 
-/// The seven zero bits of the second byte of a request.
-const ZERO_BITS: u8 = 0b0111_1111;
+/// The bit of the second byte that says that a count is kept, in kinds 2 and 5.
+/// For every other kind it is one of the zero bits.
+const KEPT: u8 = 0b0100_0000;
+
+/// The six bits of the second byte that are zero bits for every kind.
+const ZERO_BITS: u8 = 0b0011_1111;
 
 /// The bytes before the hashes in the body of kind 8: a limit of 16 bits and a
 /// hash count of 8 bits.
@@ -39,13 +43,75 @@ pub struct Fields<'a> {
     /// The room asked for by a setup.
     pub length: u16,
     /// The count of a right.
-    pub count: u16,
+    pub count: Count,
     /// The bytes of handles that a list may have; 0 for no limit.
     pub limit: u16,
     /// Asset hashes, one after another.
     pub hashes: &'a [u8],
     /// The payload of a right to be installed.
     pub payload: &'a [u8],
+}
+
+/// The fields that the writer is handed (PROFILE 6.2): those of [`Fields`], with
+/// the count as two numbers, not all of which say a count.
+#[derive(Clone, Copy, Debug, Default, PartialEq, Eq)]
+pub struct WriterFields<'a> {
+    /// The handle that the request is about.
+    pub handle: Handle,
+    /// The handle that a lent right is to have.
+    pub new_handle: Handle,
+    /// The key (REK) of a right to be installed.
+    pub key: Key,
+    /// The room asked for by a setup.
+    pub length: u16,
+    /// The count number.
+    pub count: u16,
+    /// 1 where a count is kept, and 0 where none is.
+    pub kept: u8,
+    /// The bytes of handles that a list may have; 0 for no limit.
+    pub limit: u16,
+    /// Asset hashes, one after another.
+    pub hashes: &'a [u8],
+    /// The payload of a right to be installed.
+    pub payload: &'a [u8],
+}
+
+impl<'a> WriterFields<'a> {
+    /// The fields, where count and `kept` say a count; `None` for a `kept` other
+    /// than 0 and 1, and for a count other than 0 with a `kept` of 0.
+    fn said(&self) -> Option<Fields<'a>> {
+        let kept = match self.kept {
+            0 => false,
+            1 => true,
+            _ => return None,
+        };
+        Some(Fields {
+            handle: self.handle,
+            new_handle: self.new_handle,
+            key: self.key,
+            length: self.length,
+            count: Count::said(kept, self.count)?,
+            limit: self.limit,
+            hashes: self.hashes,
+            payload: self.payload,
+        })
+    }
+}
+
+impl<'a> From<Fields<'a>> for WriterFields<'a> {
+    fn from(fields: Fields<'a>) -> Self {
+        WriterFields {
+            handle: fields.handle,
+            new_handle: fields.new_handle,
+            key: fields.key,
+            length: fields.length,
+            count: fields.count.number(),
+            kept: fields.count.is_kept().into(),
+            limit: fields.limit,
+            hashes: fields.hashes,
+            payload: fields.payload,
+        }
+    }
 }
 
 /// A request that passed every test that needs no table.
@@ -72,7 +138,7 @@ pub enum ReadRequest<'a> {
 }
 
 /// Reads a request frame (PROFILE 6.1): tests first for 104, then what is tested
-/// for all kinds, then the fields of kinds 2 and 8. The agent, not the reader,
+/// for all kinds, then the fields of kinds 2, 5 and 8. The agent, not the reader,
 /// refuses length 0 in kind 1.
 pub fn read_request(bytes: &[u8]) -> ReadRequest<'_> {
     let Some(frame) = Frame::split(bytes) else {
@@ -86,7 +152,8 @@ pub fn read_request(bytes: &[u8]) -> ReadRequest<'_> {
 
 fn read_frame<'a>(frame: &Frame<'a>) -> Result<Request<'a>, Status> {
     let kind = test_for_all_kinds(frame)?;
-    let fields = read_fields(kind, frame.body).ok_or(Status::ParameterFailed)?;
+    let kept = frame.second & KEPT != 0;
+    let fields = read_fields(kind, kept, frame.body).ok_or(Status::ParameterFailed)?;
     Ok(Request { kind, fields })
 }
 
@@ -95,7 +162,7 @@ fn read_frame<'a>(frame: &Frame<'a>) -> Result<Request<'a>, Status> {
 /// 2 for a body length that the kind cannot have, and 1 for a verdict of 0 in
 /// kinds 1 to 7.
 fn test_for_all_kinds(frame: &Frame<'_>) -> Result<Kind, Status> {
-    if !frame.version_is_right() || frame.second & ZERO_BITS != 0 {
+    if !frame.version_is_right() || frame.second & zero_bits(frame.kind_bits()) != 0 {
         return Err(Status::ParameterFailed);
     }
     let kind = Kind::from_number(frame.kind_bits()).ok_or(Status::RequestNotSupported)?;
@@ -108,9 +175,18 @@ fn test_for_all_kinds(frame: &Frame<'_>) -> Result<Kind, Status> {
     Ok(kind)
 }
 
-/// Reads the fields of a body whose length is the kind's; `None` where a
-/// field test of kind 2 or 8 fails.
-fn read_fields(kind: Kind, body: &[u8]) -> Option<Fields<'_>> {
+/// The zero bits of the second byte: seven, for kinds outside 1 to 9 too, but
+/// six for the two kinds that say whether a count is kept (PROFILE 3.1).
+fn zero_bits(kind_bits: u8) -> u8 {
+    match Kind::from_number(kind_bits) {
+        Some(kind) if kind.has_count() => ZERO_BITS,
+        _ => ZERO_BITS | KEPT,
+    }
+}
+
+/// Reads the fields of a body whose length is the kind's, where the head has the
+/// bit `kept`; `None` where a field test of kind 2, 5 or 8 fails.
+fn read_fields(kind: Kind, kept: bool, body: &[u8]) -> Option<Fields<'_>> {
     let none = Fields::default();
     if kind == Kind::HandleListQuery {
         return read_list_fields(body);
@@ -121,13 +197,13 @@ fn read_fields(kind: Kind, body: &[u8]) -> Option<Fields<'_>> {
             length: u16_at(rest, 0),
             ..none
         },
-        Kind::RightsInstallation => read_content_fields(rest)?,
+        Kind::RightsInstallation => read_content_fields(kept, rest)?,
         Kind::RightsRetrieval | Kind::RekQuery => Fields {
             new_handle: array_at(rest, 0),
             ..none
         },
         Kind::RightsEnablement => Fields {
-            count: u16_at(rest, 0),
+            count: Count::said(kept, u16_at(rest, 0))?,
             ..none
         },
         _ => none,
@@ -135,10 +211,11 @@ fn read_fields(kind: Kind, body: &[u8]) -> Option<Fields<'_>> {
     Some(Fields { handle, ..fields })
 }
 
-/// The field tests of kind 2 (PROFILE 5.2): at most 8 hashes, the four zero bits
-/// 0, and a payload of 1 to 4,096 bytes after the hashes.
-fn read_content_fields(content: &[u8]) -> Option<Fields<'_>> {
-    let content = Content::read(content)?;
+/// The field tests of kind 2 (PROFILE 5.2): no count without its bit, at most 8
+/// hashes, the four zero bits 0, and a payload of 1 to 4,096 bytes after the
+/// hashes.
+fn read_content_fields(kept: bool, content: &[u8]) -> Option<Fields<'_>> {
+    let content = Content::read(content, kept)?;
     Some(Fields {
         key: content.key,
         count: content.count,
@@ -163,14 +240,17 @@ fn read_list_fields(body: &[u8]) -> Option<Fields<'_>> {
 /// Writes a request frame at the start of `out`, with a verdict of 1, and gives
 /// 0; or refuses with 202 or 201, tested in that order (PROFILE 6.2). The bytes
 /// after the frame keep what they held, and a refusal changes no byte.
-pub fn write_request(kind: u8, fields: &Fields<'_>, out: &mut [u8]) -> u16 {
-    let Some(kind) = Kind::from_number(kind) else {
+///
+/// No kind takes a count that bit and number do not say.
+pub fn write_request(kind: u8, fields: &WriterFields<'_>, out: &mut [u8]) -> u16 {
+    let (Some(kind), Some(fields)) = (Kind::from_number(kind), fields.said()) else {
         return WRITER_FIELDS;
     };
-    if !fields_are_right(kind, fields) {
+    if !fields_are_right(kind, &fields) {
         return WRITER_FIELDS;
     }
-    let frame = frame::join(kind.number(), VERDICT, &body(kind, fields));
+    let kept = if fields.count.is_kept() { KEPT } else { 0 };
+    let frame = frame::join(kind.number(), VERDICT | kept, &body(kind, &fields));
     let Some(place) = out.get_mut(..frame.len()) else {
         return WRITER_BUFFER_SHORT;
     };
@@ -236,7 +316,7 @@ fn body(kind: Kind, fields: &Fields<'_>) -> Vec<u8> {
         Kind::InstallationSetup => body.extend(fields.length.to_be_bytes()),
         Kind::RightsInstallation => content_of(fields).write_to(&mut body),
         Kind::RightsRetrieval | Kind::RekQuery => body.extend(fields.new_handle),
-        Kind::RightsEnablement => body.extend(fields.count.to_be_bytes()),
+        Kind::RightsEnablement => body.extend(fields.count.number().to_be_bytes()),
         _ => {}
     }
     body

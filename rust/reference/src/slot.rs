@@ -3,10 +3,10 @@
 //!
 //! | bytes | content |
 //! |---|---|
-//! | 0 | place 2 bits, hash count 4 bits, 2 spare bits |
+//! | 0 | place 2 bits, hash count 4 bits, kept 1 bit, 1 spare bit |
 //! | 1–10 | handle |
 //! | 11–26 | key (REK) |
-//! | 27–28 | count |
+//! | 27–28 | count number |
 //! | 29–30 | payload length |
 //! | 31–190 | up to 8 asset hashes of 20 bytes (SHA-1) |
 //! | 191 | zero |
@@ -16,13 +16,19 @@ use std::slice::ChunksExact;
 
 use crate::bytes::{all_zero, array_at, u16_at};
 use crate::content::{self, Content};
-use crate::{Handle, Key, HANDLE_BYTES, HASH_BYTES, KEY_BYTES, MAX_HASHES};
+use crate::{Count, Handle, Key, HANDLE_BYTES, HASH_BYTES, KEY_BYTES, MAX_HASHES};
 
 /// The bytes of a slot.
 pub const SLOT_BYTES: usize = 4288;
 
 /// One slot, as bytes.
 pub type SlotBytes = [u8; SLOT_BYTES];
+
+/// The bit of byte 0 that says that a count is kept.
+const KEPT: u8 = 0b0000_0010;
+
+/// The spare bit of byte 0.
+const SPARE: u8 = 0b0000_0001;
 
 const HANDLE_AT: usize = 1;
 const KEY_AT: usize = 11;
@@ -73,9 +79,14 @@ pub fn hash_count(slot: &SlotBytes) -> usize {
     usize::from(slot[0] >> 2 & 0b1111)
 }
 
-/// The spare bits: the two lowest bits of byte 0.
-pub fn spare_bits(slot: &SlotBytes) -> u8 {
-    slot[0] & 0b11
+/// Whether the bit that says that a count is kept is set.
+pub fn kept(slot: &SlotBytes) -> bool {
+    slot[0] & KEPT != 0
+}
+
+/// Whether the spare bit, the lowest of byte 0, is set.
+pub fn spare(slot: &SlotBytes) -> bool {
+    slot[0] & SPARE != 0
 }
 
 /// The handle bytes. An empty slot has no handle; see [`has_handle`].
@@ -88,9 +99,20 @@ pub fn key(slot: &SlotBytes) -> Key {
     array_at(slot, KEY_AT)
 }
 
-/// The count; 0 says that the right keeps no count.
-pub fn count(slot: &SlotBytes) -> u16 {
+/// The count number, whatever the bit says.
+pub fn count_number(slot: &SlotBytes) -> u16 {
     u16_at(slot, COUNT_AT)
+}
+
+/// The count of a slot that is well formed. A number without its bit, which is
+/// not, counts as none kept.
+pub fn count(slot: &SlotBytes) -> Count {
+    count_said(slot).unwrap_or_default()
+}
+
+/// The count that bit and number say; `None` for a number without its bit.
+fn count_said(slot: &SlotBytes) -> Option<Count> {
+    Count::said(kept(slot), count_number(slot))
 }
 
 /// The payload length, which in a reserved slot is the room asked for.
@@ -125,19 +147,46 @@ pub fn has_hash_of(slot: &SlotBytes, wanted: &[u8]) -> bool {
 
 /// Whether the slot is well formed (PROFILE 2.4).
 pub fn well_formed(slot: &SlotBytes) -> bool {
-    spare_bits(slot) == 0
-        && slot[ZERO_AT] == 0
+    !spare(slot) && count_is_right(slot) && well_formed_but_for_count(slot)
+}
+
+/// Whether a slot that is to be turned is well formed by the rules before a
+/// count had its bit (PROFILE 2.7): both low bits of byte 0 are spare, and the
+/// count number of a right is anything.
+pub fn well_formed_before_turning(slot: &SlotBytes) -> bool {
+    slot[0] & (KEPT | SPARE) == 0
+        && (holds_a_right(slot) || count_number(slot) == 0)
+        && well_formed_but_for_count(slot)
+}
+
+/// Whether bit and number say a count that the slot may have: a right any, and
+/// an empty or reserved slot none.
+fn count_is_right(slot: &SlotBytes) -> bool {
+    match count_said(slot) {
+        Some(Count::NotKept) => true,
+        Some(Count::Kept(_)) => holds_a_right(slot),
+        None => false,
+    }
+}
+
+fn holds_a_right(slot: &SlotBytes) -> bool {
+    matches!(place(slot), Place::Enabled | Place::Disabled)
+}
+
+/// Whether all that is no count and no spare bit is well formed.
+fn well_formed_but_for_count(slot: &SlotBytes) -> bool {
+    slot[ZERO_AT] == 0
         && hash_count(slot) <= MAX_HASHES
         && all_zero(split_hashes(slot).1)
         && all_zero(split_payload(slot).1)
         && well_formed_for_place(slot)
 }
 
-/// The rule that the slot's place adds.
+/// The rule that the slot's place adds, beside that of the count.
 fn well_formed_for_place(slot: &SlotBytes) -> bool {
     match place(slot) {
         Place::Empty => all_zero(slot),
-        Place::Reserved => length_is_right(slot) && holds_no_right(slot),
+        Place::Reserved => length_is_right(slot) && content_is_blank(slot),
         Place::Enabled | Place::Disabled => length_is_right(slot),
     }
 }
@@ -147,12 +196,9 @@ fn length_is_right(slot: &SlotBytes) -> bool {
     content::payload_length_is_right(length(slot).into())
 }
 
-/// Whether hash count, key, count and payload are all 0.
-fn holds_no_right(slot: &SlotBytes) -> bool {
-    hash_count(slot) == 0
-        && all_zero(&key(slot))
-        && count(slot) == 0
-        && all_zero(&slot[PAYLOAD_AT..])
+/// Whether hash count, key and payload are all 0.
+fn content_is_blank(slot: &SlotBytes) -> bool {
+    hash_count(slot) == 0 && all_zero(&key(slot)) && all_zero(&slot[PAYLOAD_AT..])
 }
 
 fn each_hash(hashes: &[u8]) -> ChunksExact<'_, u8> {
@@ -192,14 +238,14 @@ pub(crate) fn fill(slot: &mut SlotBytes, content: &Content<'_>) {
 }
 
 /// Kinds 3 and 4: disables the record under a new handle, and changes nothing
-/// else.
+/// else; the count's bit stays as it is.
 pub(crate) fn lend(slot: &mut SlotBytes, new_handle: &Handle) {
     set_place(slot, Place::Disabled);
     set_handle(slot, new_handle);
 }
 
 /// Kind 5: enables a disabled record with a count.
-pub(crate) fn enable(slot: &mut SlotBytes, count: u16) {
+pub(crate) fn enable(slot: &mut SlotBytes, count: Count) {
     set_place(slot, Place::Enabled);
     set_count(slot, count);
 }
@@ -207,6 +253,14 @@ pub(crate) fn enable(slot: &mut SlotBytes, count: u16) {
 /// Kinds 6 and 7: clears every byte of the slot.
 pub(crate) fn clear(slot: &mut SlotBytes) {
     slot.fill(0);
+}
+
+/// The turning: sets the bit where the number is not 0, and changes nothing
+/// else.
+pub(crate) fn turn(slot: &mut SlotBytes) {
+    if count_number(slot) != 0 {
+        slot[0] |= KEPT;
+    }
 }
 
 /// The content of a slot that is enabled or disabled.
@@ -227,8 +281,10 @@ fn set_handle(slot: &mut SlotBytes, handle: &Handle) {
     put(slot, HANDLE_AT, handle);
 }
 
-fn set_count(slot: &mut SlotBytes, count: u16) {
-    put(slot, COUNT_AT, &count.to_be_bytes());
+/// Writes the count's bit and its number.
+fn set_count(slot: &mut SlotBytes, count: Count) {
+    slot[0] = slot[0] & !KEPT | if count.is_kept() { KEPT } else { 0 };
+    put(slot, COUNT_AT, &count.number().to_be_bytes());
 }
 
 fn put(slot: &mut SlotBytes, offset: usize, bytes: &[u8]) {

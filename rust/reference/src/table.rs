@@ -25,11 +25,22 @@ pub fn well_formed(table: &[u8]) -> bool {
 /// Tests a table (PROFILE 4.1): 102 where it is not 1 to 15 whole slots, then
 /// 103 where it is not well formed (PROFILE 2.5).
 pub fn check(table: &[u8]) -> Result<(), u16> {
+    check_by(slot::well_formed, table)
+}
+
+/// Tests a table that is to be turned: 102 as for any table, then 103 where it
+/// is not well formed by the rules before a count had its bit (PROFILE 2.7).
+pub fn check_before_turning(table: &[u8]) -> Result<(), u16> {
+    check_by(slot::well_formed_before_turning, table)
+}
+
+/// Tests a table whose slots are to pass this test.
+fn check_by(well_formed: fn(&SlotBytes) -> bool, table: &[u8]) -> Result<(), u16> {
     if !length_is_right(table) {
         return Err(TABLE_LENGTH);
     }
     let slots = slots(table);
-    if !slots.iter().all(slot::well_formed) || two_share_a_handle(slots) {
+    if !slots.iter().all(well_formed) || two_share_a_handle(slots) {
         return Err(TABLE_NOT_WELL_FORMED);
     }
     Ok(())

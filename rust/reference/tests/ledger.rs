@@ -2,15 +2,15 @@
 
 mod common;
 
-use common::{body_bytes, mixed_table, request_bytes, right, setup, OwnFields};
+use common::{frame_bytes, mixed_table, right, setup, uncounted, OwnFields};
 use reference::ledger::{agrees, Ledger, Right, Setup, Standing};
-use reference::{read_request, ReadRequest, SLOT_BYTES};
+use reference::{read_request, Count, ReadRequest, SLOT_BYTES};
 
 /// The ledger of requests with their statuses.
 fn ledger_of(history: &[(u8, OwnFields, u8)]) -> Ledger {
     let frames: Vec<Vec<u8>> = history
         .iter()
-        .map(|(kind, fields, _)| request_bytes(*kind, 0x80, &body_bytes(*kind, fields)))
+        .map(|(kind, fields, _)| frame_bytes(*kind, fields))
         .collect();
     Ledger::of(frames.iter().zip(history).map(|(frame, (_, _, status))| {
         let ReadRequest::Request(request) = read_request(frame) else {
@@ -34,7 +34,7 @@ fn lending(from: u8, to: u8) -> OwnFields {
     }
 }
 
-fn returning(from: u8, count: u16) -> OwnFields {
+fn returning(from: u8, count: Count) -> OwnFields {
     OwnFields {
         count,
         ..about(from)
@@ -63,7 +63,7 @@ fn mixed_history() -> Vec<(u8, OwnFields, u8)> {
         (1, setup(4, 9), 0),
         (2, right(1, 2, 33), 0),
         (2, right(3, 8, 4096), 0),
-        (2, right(4, 0, 9), 0),
+        (2, uncounted(right(4, 0, 9)), 0),
         (4, lending(3, 5), 0),
         (7, about(0), 0),
     ]
@@ -87,18 +87,32 @@ fn setups_open_and_close() {
 
 #[test]
 fn a_right_is_lent_returned_and_gone() {
+    use Count::{Kept, NotKept};
     let fields = right(1, 2, 7);
     let mut history = vec![(1, setup(1, 9), 0), (2, fields.clone(), 0)];
     let mut expected = as_installed(&fields);
     let steps = [
-        (5, returning(1, 77), Standing::ForUse, 1, expected.count),
+        (
+            5,
+            returning(1, Kept(77)),
+            Standing::ForUse,
+            1,
+            expected.count,
+        ),
         (3, lending(1, 2), Standing::Lent, 2, expected.count),
-        (5, returning(2, 40), Standing::ForUse, 2, 40),
-        (5, returning(2, 41), Standing::ForUse, 2, 40),
-        (4, lending(2, 0), Standing::Lent, 0, 40),
-        (8, OwnFields::default(), Standing::Lent, 0, 40),
-        (9, about(0), Standing::Lent, 0, 40),
-        (6, about(0), Standing::Gone, 0, 40),
+        (5, returning(2, Kept(40)), Standing::ForUse, 2, Kept(40)),
+        (5, returning(2, Kept(41)), Standing::ForUse, 2, Kept(40)),
+        (5, returning(2, NotKept), Standing::ForUse, 2, Kept(40)),
+        (4, lending(2, 0), Standing::Lent, 0, Kept(40)),
+        (8, OwnFields::default(), Standing::Lent, 0, Kept(40)),
+        (9, about(0), Standing::Lent, 0, Kept(40)),
+        (5, returning(0, Kept(0)), Standing::ForUse, 0, Kept(0)),
+        (3, lending(0, 3), Standing::Lent, 3, Kept(0)),
+        (5, returning(3, NotKept), Standing::ForUse, 3, NotKept),
+        (5, returning(3, Kept(0)), Standing::ForUse, 3, NotKept),
+        (4, lending(3, 4), Standing::Lent, 4, NotKept),
+        (5, returning(4, Kept(5)), Standing::ForUse, 4, Kept(5)),
+        (6, about(4), Standing::Gone, 4, Kept(5)),
     ];
     for (kind, fields, standing, handle, count) in steps {
         history.push((kind, fields, 0));
@@ -154,6 +168,32 @@ fn a_table_with_any_byte_changed_does_not_agree() {
         table[index] ^= bit;
         assert!(agrees(&ledger, &table).is_err(), "byte {index}");
         table[index] ^= bit;
+    }
+}
+
+/// A count that is used up and none at all have equal numbers.
+#[test]
+fn the_count_is_told_with_its_bit() {
+    for told in [Count::NotKept, Count::Kept(0)] {
+        let installed = OwnFields {
+            count: told,
+            ..right(1, 0, 5)
+        };
+        let ledger = ledger_of(&[(1, setup(1, 5), 0), (2, installed.clone(), 0)]);
+        for held in [Count::NotKept, Count::Kept(0)] {
+            let mut table = common::blank(1);
+            common::call_for(0, &mut table, 1, &setup(1, 5));
+            let fields = OwnFields {
+                count: held,
+                ..installed.clone()
+            };
+            common::call_for(0, &mut table, 2, &fields);
+            let agreed = agrees(&ledger, &table);
+            assert_eq!(agreed.is_ok(), told == held, "{told:?}, {held:?}");
+            if let Err(message) = agreed {
+                assert!(message.ends_with("count"), "{message}");
+            }
+        }
     }
 }
 

@@ -2,8 +2,8 @@
 
 mod common;
 
-use common::{blank, call_for, mixed_table, setup};
-use reference::listing;
+use common::{blank, call_for, mixed_table, right, setup, OwnFields};
+use reference::{listing, Count};
 
 fn text(table: &[u8]) -> String {
     String::from_utf8(listing(table)).expect("the listing is text")
@@ -28,8 +28,29 @@ fn every_place_has_its_word() {
          1 reserved 0 0 7\n\
          2 disabled 8 259 4096\n\
          3 empty 0 0 0\n\
-         4 enabled 0 260 9\n"
+         4 enabled 0 0 9\n"
     );
+}
+
+/// The bit of a count is not shown: one that is used up and none are both 0.
+#[test]
+fn a_count_is_shown_as_its_number() {
+    for (count, shown) in [
+        (Count::NotKept, "0"),
+        (Count::Kept(0), "0"),
+        (Count::Kept(1), "1"),
+        (Count::Kept(65_535), "65535"),
+    ] {
+        let mut table = blank(1);
+        let installed = OwnFields {
+            count,
+            ..right(1, 3, 5)
+        };
+        call_for(0, &mut table, 1, &setup(1, 5));
+        call_for(0, &mut table, 2, &installed);
+        let line = format!("slot place hashes count length\n0 enabled 3 {shown} 5\n");
+        assert_eq!(text(&table), line, "{count:?}");
+    }
 }
 
 #[test]

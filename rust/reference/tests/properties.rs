@@ -3,12 +3,12 @@
 
 mod common;
 
-use common::{blank, body_bytes, call, request_bytes, Asker, FILLER};
+use common::{blank, call, frame_bytes, Asker, FILLER};
 use random::Rng;
 use reference::ledger::{agrees, Ledger, Right, Standing};
 use reference::ReadRequest::{NoFrame, Refused, Request};
 use reference::{read_reply, read_request, well_formed, write_request};
-use reference::{Fields, Kind, Reply, HASH_BYTES, MAX_SLOTS, REPLY_ROOM};
+use reference::{Count, Fields, Kind, Reply, HASH_BYTES, MAX_SLOTS, REPLY_ROOM};
 use std::collections::BTreeSet;
 
 /// A table with its history.
@@ -140,6 +140,7 @@ fn call_sequences_keep_tables_well_formed_and_agree_with_the_ledger() {
     let mut rng = Rng::announced("call sequences");
     let mut seen = BTreeSet::new();
     let mut most_rights = 0;
+    let mut counts = BTreeSet::new();
     for slots in 1..=MAX_SLOTS {
         for _ in 0..6 {
             let mut card = Card::blank(slots);
@@ -150,11 +151,15 @@ fn call_sequences_keep_tables_well_formed_and_agree_with_the_ledger() {
                     seen.insert((kind, status));
                 }
                 most_rights = most_rights.max(card.rights_for_use().count());
+                counts.extend(card.rights_for_use().map(|right| right.count));
             }
         }
     }
     assert_eq!(seen, statuses_by_kind(), "every status where it belongs");
     assert!(most_rights >= 8, "the larger tables fill up: {most_rights}");
+    for count in [Count::NotKept, Count::Kept(0), Count::Kept(0xFFFF)] {
+        assert!(counts.contains(&count), "{count:?}");
+    }
 }
 
 #[test]
@@ -165,9 +170,9 @@ fn written_requests_read_back_to_their_fields() {
         let kind = 1 + (round % 9) as u8;
         let own = asker.fields(&mut rng, kind);
         let fields = own.lent();
-        let frame = request_bytes(kind, 0x80, &body_bytes(kind, &own));
+        let frame = frame_bytes(kind, &own);
         let mut buffer = vec![FILLER; frame.len() + rng.below(4)];
-        assert_eq!(write_request(kind, &fields, &mut buffer), 0);
+        assert_eq!(write_request(kind, &own.handed(), &mut buffer), 0);
         assert_eq!(buffer[..frame.len()], frame);
         assert!(buffer[frame.len()..].iter().all(|&byte| byte == FILLER));
         let Request(request) = read_request(&frame) else {
@@ -177,7 +182,7 @@ fn written_requests_read_back_to_their_fields() {
         assert_eq!(request.fields, fields);
 
         let mut short = vec![FILLER; rng.below(frame.len())];
-        assert_eq!(write_request(kind, &fields, &mut short), 201);
+        assert_eq!(write_request(kind, &own.handed(), &mut short), 201);
         assert!(short.iter().all(|&byte| byte == FILLER));
     }
 }
@@ -196,7 +201,7 @@ fn frames_that_read_as_requests_are_written_to_the_same_bytes() {
             continue;
         };
         let mut written = vec![0; frame.len()];
-        let number = write_request(request.kind.number(), &request.fields, &mut written);
+        let number = write_request(request.kind.number(), &request.fields.into(), &mut written);
         assert_eq!(number, 0);
         if frame[1] == 0 {
             assert!(request.kind >= Kind::HandleListQuery);
@@ -260,7 +265,7 @@ fn readers_take_any_bytes() {
         let mut frame = rng.bytes(length);
         if length >= 4 && !rng.one_in(8) {
             frame[0] = 0x20 | frame[0] & 15;
-            frame[1] = rng.pick(&[0, 0, 1, 8, 9, 0x80]);
+            frame[1] = rng.pick(&[0, 0, 1, 8, 9, 0x80, 0x80, 0x81]);
             frame[2] = 0;
             frame[3] = (length - 4) as u8;
         }
@@ -269,8 +274,9 @@ fn readers_take_any_bytes() {
         match read_reply(&frame) {
             Ok(reply) => {
                 assert!(whole && reply.kind == frame[0] & 31);
-                assert_eq!(reply.status.number(), frame[1]);
-                assert!(frame[1] == 0 || length == 4);
+                assert_eq!(reply.status.number(), frame[1] & 0x7F);
+                assert!(frame[1] & 0x7F == 0 || length == 4);
+                assert_eq!(reply.fields.count.is_kept(), frame[1] & 0x80 != 0);
                 accepted += 1;
             }
             Err(number) => assert_eq!(number, 203),

@@ -3,7 +3,7 @@
 mod common;
 
 use common::request_bytes;
-use reference::{read_reply, Reply, ReplyFields, Status};
+use reference::{read_reply, Count, Reply, ReplyFields, Status};
 
 /// A reply frame, put together without the library.
 fn reply_bytes(kind: u8, status: u8, body: &[u8]) -> Vec<u8> {
@@ -24,15 +24,20 @@ fn fields_of_each_success() {
     let hashes = [4; 40];
     let content = [&[3; 16][..], &[1, 2, 0x20], &hashes, &[5, 6]].concat();
     let handles = [9; 20];
-    let rows: &[(u8, &[u8], ReplyFields)] = &[
-        (1, &[], none),
-        (2, &[], none),
+    let information = ReplyFields {
+        payload: &[3],
+        ..none
+    };
+    let rows: &[(u8, u8, &[u8], ReplyFields)] = &[
+        (1, 0, &[], none),
+        (2, 0, &[], none),
         (
             3,
+            0x80,
             &content,
             ReplyFields {
                 key: [3; 16],
-                count: 0x0102,
+                count: Count::Kept(0x0102),
                 hashes: &hashes,
                 payload: &[5, 6],
                 ..none
@@ -40,19 +45,21 @@ fn fields_of_each_success() {
         ),
         (
             4,
+            0,
             &[7; 16],
             ReplyFields {
                 key: [7; 16],
                 ..none
             },
         ),
-        (5, &[], none),
-        (6, &[], none),
-        (7, &[], none),
-        (8, &[0], none),
-        (8, &[0x80], ReplyFields { more: true, ..none }),
+        (5, 0, &[], none),
+        (6, 0, &[], none),
+        (7, 0, &[], none),
+        (8, 0, &[0], none),
+        (8, 0, &[0x80], ReplyFields { more: true, ..none }),
         (
             8,
+            0,
             &[&[0x80][..], &handles].concat(),
             ReplyFields {
                 more: true,
@@ -62,18 +69,28 @@ fn fields_of_each_success() {
         ),
         (
             9,
+            0x80,
             &[1, 2, 3],
             ReplyFields {
-                count: 0x0102,
-                payload: &[3],
-                ..none
+                count: Count::Kept(0x0102),
+                ..information
             },
         ),
+        (
+            9,
+            0x80,
+            &[0, 0, 3],
+            ReplyFields {
+                count: Count::Kept(0),
+                ..information
+            },
+        ),
+        (9, 0, &[0, 0, 3], information),
     ];
-    for &(kind, body, fields) in rows {
+    for &(kind, second, body, fields) in rows {
         let status = Status::Success;
         assert_eq!(
-            read_reply(&reply_bytes(kind, 0, body)),
+            read_reply(&reply_bytes(kind, second, body)),
             Ok(Reply {
                 kind,
                 status,
@@ -95,6 +112,7 @@ fn a_status_other_than_0_has_an_empty_body_and_any_kind() {
                 assert!(!accepted(kind, number, &vec![0; body]));
             }
         }
+        // 8 to 127 are no status, and a refusal has no count
         for number in 8..=255 {
             assert!(!accepted(kind, number, &[]), "status {number}");
         }
@@ -135,7 +153,7 @@ fn hash_count_and_zero_bits_of_kind_3() {
             let hashes = 20 * usize::from(byte >> 4);
             let payload = rest.saturating_sub(hashes);
             let right = byte & 15 == 0 && byte <= 0x80 && (1..=4096).contains(&payload);
-            assert_eq!(accepted(3, 0, &body), right, "{byte:02x}, {rest}");
+            assert_eq!(accepted(3, 0x80, &body), right, "{byte:02x}, {rest}");
         }
     }
 }
@@ -144,6 +162,44 @@ fn hash_count_and_zero_bits_of_kind_3() {
 fn zero_bits_of_kind_8() {
     for byte in 0..=255 {
         assert_eq!(accepted(8, 0, &[byte]), byte & 0x7F == 0);
+    }
+}
+
+/// The body of a success, with this number as its count if the kind has one.
+fn success_body(kind: u8, count: u16) -> Vec<u8> {
+    match kind {
+        3 => [&[1; 16][..], &count.to_be_bytes(), &[0, 5]].concat(),
+        4 => vec![1; 16],
+        8 => vec![0],
+        9 => [&count.to_be_bytes()[..], &[5]].concat(),
+        _ => Vec::new(),
+    }
+}
+
+#[test]
+fn the_bit_of_the_count_is_for_successes_of_kinds_3_and_9() {
+    for kind in 0..32 {
+        let body = success_body(kind, 0);
+        assert_eq!(accepted(kind, 0x00, &body), (1..=9).contains(&kind));
+        assert_eq!(accepted(kind, 0x80, &body), kind == 3 || kind == 9);
+        for status in 1..=127 {
+            assert!(!accepted(kind, 0x80 | status, &body));
+            assert!(!accepted(kind, 0x80 | status, &[]));
+        }
+    }
+}
+
+#[test]
+fn a_count_without_its_bit_is_203() {
+    for number in [0, 1, 0xFF, 0x100, 0x8000, 0xFFFF] {
+        for kind in [3, 9] {
+            let body = success_body(kind, number);
+            assert_eq!(accepted(kind, 0, &body), number == 0, "{number}");
+            let frame = reply_bytes(kind, 0x80, &body);
+            let reply = read_reply(&frame).expect("a count and its bit");
+            assert_eq!(reply.status, Status::Success);
+            assert_eq!(reply.fields.count, Count::Kept(number));
+        }
     }
 }
 

@@ -2,9 +2,9 @@
 
 mod common;
 
-use common::{body_bytes, request_bytes, right, OwnFields, FILLER};
+use common::{frame_bytes, request_bytes, right, OwnFields, FILLER};
 use reference::ReadRequest::{NoFrame, Refused, Request};
-use reference::{read_request, write_request, Fields, Kind, Status};
+use reference::{read_request, write_request, Count, Fields, Kind, Status, WriterFields};
 
 const HANDLE: [u8; 10] = [1, 2, 3, 4, 5, 6, 7, 8, 9, 10];
 const NEW_HANDLE: [u8; 10] = [11, 12, 13, 14, 15, 16, 17, 18, 19, 20];
@@ -34,13 +34,13 @@ fn samples() -> Vec<(u8, Fields<'static>, Vec<u8>)> {
             2,
             Fields {
                 key: KEY,
-                count: 0x0405,
+                count: Count::Kept(0x0405),
                 hashes: &TWO_HASHES,
                 payload: &[7, 8, 9],
                 ..handle
             },
             &[
-                &[0x22, 0x80, 0, 72],
+                &[0x22, 0xC0, 0, 72],
                 &HANDLE,
                 &KEY,
                 &[4, 5, 0x20],
@@ -53,10 +53,10 @@ fn samples() -> Vec<(u8, Fields<'static>, Vec<u8>)> {
         (
             5,
             Fields {
-                count: 0x0607,
+                count: Count::Kept(0x0607),
                 ..handle
             },
-            &[&[0x25, 0x80, 0, 12], &HANDLE, &[6, 7]],
+            &[&[0x25, 0xC0, 0, 12], &HANDLE, &[6, 7]],
         ),
         (6, handle, &[&[0x26, 0x80, 0, 10], &HANDLE]),
         (7, handle, &[&[0x27, 0x80, 0, 10], &HANDLE]),
@@ -79,7 +79,7 @@ fn samples() -> Vec<(u8, Fields<'static>, Vec<u8>)> {
 fn each_kind_is_written_and_read_byte_for_byte() {
     for (kind, fields, frame) in samples() {
         let mut buffer = vec![FILLER; frame.len() + 5];
-        assert_eq!(write_request(kind, &fields, &mut buffer), 0, "kind {kind}");
+        assert_eq!(write_request(kind, &fields.into(), &mut buffer), 0);
         assert_eq!(buffer[..frame.len()], frame, "kind {kind}");
         assert_eq!(buffer[frame.len()..], [FILLER; 5]);
         let Request(request) = read_request(&frame) else {
@@ -95,16 +95,17 @@ fn a_buffer_that_is_shorter_is_201() {
     for (kind, fields, frame) in samples() {
         for room in [0, 4, frame.len() - 1] {
             let mut buffer = vec![FILLER; room];
-            assert_eq!(write_request(kind, &fields, &mut buffer), 201);
+            assert_eq!(write_request(kind, &fields.into(), &mut buffer), 201);
             assert_eq!(buffer, vec![FILLER; room]);
         }
-        assert_eq!(write_request(kind, &fields, &mut vec![0; frame.len()]), 0);
+        let mut buffer = vec![0; frame.len()];
+        assert_eq!(write_request(kind, &fields.into(), &mut buffer), 0);
     }
 }
 
 /// Asserts 202 for a long buffer, with no byte changed, and for an empty one:
 /// 202 is tested before 201.
-fn assert_202(kind: u8, fields: &Fields<'_>) {
+fn assert_202(kind: u8, fields: &WriterFields<'_>) {
     let mut buffer = vec![FILLER; 5000];
     assert_eq!(write_request(kind, fields, &mut buffer), 202, "kind {kind}");
     assert!(buffer.iter().all(|&byte| byte == FILLER));
@@ -114,32 +115,35 @@ fn assert_202(kind: u8, fields: &Fields<'_>) {
 #[test]
 fn a_kind_not_1_to_9_is_202() {
     for kind in (0..=255).filter(|kind| !(1..=9).contains(kind)) {
-        assert_202(kind, &Fields::default());
+        assert_202(kind, &WriterFields::default());
+    }
+}
+
+/// Fields as blank as the writer takes them.
+fn blank_fields(kind: u8) -> WriterFields<'static> {
+    WriterFields {
+        payload: if kind == 2 { &[0] } else { &[] },
+        ..WriterFields::default()
     }
 }
 
 #[test]
 fn a_field_that_the_kind_lacks_is_202() {
-    type Set = fn(&mut Fields<'static>);
-    let fields: [(&str, &[u8], Set); 8] = [
+    type Set = fn(&mut WriterFields<'static>);
+    let fields: [(&str, &[u8], Set); 9] = [
         ("handle", &[1, 2, 3, 4, 5, 6, 7, 9], |f| f.handle[9] = 1),
         ("new handle", &[3, 4], |f| f.new_handle[9] = 1),
         ("key", &[2], |f| f.key[15] = 1),
         ("length", &[1], |f| f.length = 1),
-        ("count", &[2, 5], |f| f.count = 0x100),
+        ("count", &[2, 5], |f| (f.count, f.kept) = (0x100, 1)),
+        ("kept", &[2, 5], |f| f.kept = 1),
         ("limit", &[8], |f| f.limit = 1),
         ("hashes", &[2, 8], |f| f.hashes = &[0; 20]),
         ("payload", &[2], |f| f.payload = &[0]),
     ];
     for (name, kinds, set) in fields {
         for kind in 1..=9 {
-            let mut fields = match kind {
-                2 => Fields {
-                    payload: &[0],
-                    ..Fields::default()
-                },
-                _ => Fields::default(),
-            };
+            let mut fields = blank_fields(kind);
             set(&mut fields);
             let expected = if kinds.contains(&kind) { 0 } else { 202 };
             let number = write_request(kind, &fields, &mut [0; 100]);
@@ -156,10 +160,9 @@ fn hash_bytes_are_a_multiple_of_20_up_to_160() {
     let bytes = [0; 200];
     for kind in [2, 8] {
         for length in 0..=200 {
-            let fields = Fields {
+            let fields = WriterFields {
                 hashes: &bytes[..length],
-                payload: if kind == 2 { &[1] } else { &[] },
-                ..Fields::default()
+                ..blank_fields(kind)
             };
             if length % 20 == 0 && length <= 160 {
                 assert_eq!(write_request(kind, &fields, &mut [0; 250]), 0);
@@ -174,9 +177,9 @@ fn hash_bytes_are_a_multiple_of_20_up_to_160() {
 fn a_payload_of_kind_2_is_1_to_4096_bytes() {
     let bytes = [3; 4097];
     for (length, number) in [(0, 202), (1, 0), (4095, 0), (4096, 0), (4097, 202)] {
-        let fields = Fields {
+        let fields = WriterFields {
             payload: &bytes[..length],
-            ..Fields::default()
+            ..WriterFields::default()
         };
         assert_eq!(write_request(2, &fields, &mut [0; 4400]), number);
     }
@@ -190,7 +193,7 @@ fn the_writer_leaves_the_length_of_kind_1_to_the_agent() {
             ..Fields::default()
         };
         let mut frame = [0; 16];
-        assert_eq!(write_request(1, &fields, &mut frame), 0);
+        assert_eq!(write_request(1, &fields.into(), &mut frame), 0);
         assert!(matches!(read_request(&frame), Request(r) if r.fields == fields));
     }
 }
@@ -209,6 +212,10 @@ fn tests_for_all_kinds_come_in_order() {
         (&[0xE1, 0x80, 0, 0], Parameter),
         (&[0x2A, 0x01, 0, 0], Parameter),
         (&[0x3F, 0xC0, 0, 0], Parameter),
+        (&[0x2A, 0x40, 0, 0], Parameter),
+        (&[0x26, 0x40, 0, 0], Parameter),
+        (&[0x22, 0x20, 0, 0], Parameter),
+        (&[0x45, 0x40, 0, 0], Parameter),
         (&[0x40, 0x80, 0, 0], Parameter),
         // the kind
         (&[0x20, 0x00, 0, 0], Unsupported),
@@ -218,8 +225,23 @@ fn tests_for_all_kinds_come_in_order() {
         (&[0x21, 0x00, 0, 0], Parameter),
         (&[0x26, 0x00, 0, 1, 5], Parameter),
         (&[0x28, 0x00, 0, 2, 0, 0], Parameter),
+        (&[0x25, 0x40, 0, 2, 0, 1], Parameter),
+        (&[0x25, 0x00, 0, 2, 0, 1], Parameter),
         // the verdict
         (&[0x26, 0, 0, 10, 1, 1, 1, 1, 1, 1, 1, 1, 1, 1], Integrity),
+        // the verdict, before a count without its bit
+        (
+            &[0x25, 0, 0, 12, 1, 1, 1, 1, 1, 1, 1, 1, 1, 1, 0, 1],
+            Integrity,
+        ),
+        (
+            &[0x25, 0x40, 0, 12, 1, 1, 1, 1, 1, 1, 1, 1, 1, 1, 0, 1],
+            Integrity,
+        ),
+        (
+            &[0x25, 0x80, 0, 12, 1, 1, 1, 1, 1, 1, 1, 1, 1, 1, 0, 1],
+            Parameter,
+        ),
     ];
     for (frame, status) in rows {
         assert_eq!(read_request(frame), Refused(*status), "{frame:02x?}");
@@ -260,8 +282,10 @@ fn kinds_8_and_9_ignore_the_verdict() {
                 Refused(Status::FieldIntegrityVerificationFailed)
             ),
         }
-        frame[1] = 0x81;
-        assert_eq!(read_request(&frame), PARAMETER_FAILED, "a zero bit is set");
+        for bit in 0..6 {
+            frame[1] = 0x80 | 1 << bit;
+            assert_eq!(read_request(&frame), PARAMETER_FAILED, "a zero bit is set");
+        }
     }
 }
 
@@ -290,7 +314,7 @@ fn field_tests_of_kind_2() {
     ];
     for &(hash_count, rest, read) in rows {
         let body = [&[7; 28][..], &[hash_count], &vec![7; rest]].concat();
-        let frame = request_bytes(2, 0x80, &body);
+        let frame = request_bytes(2, 0xC0, &body);
         match read_request(&frame) {
             Request(request) => {
                 assert!(read, "{hash_count:02x}, {rest}");
@@ -344,7 +368,7 @@ fn a_frame_is_4_plus_its_body_length() {
 fn the_longest_request_is_written_and_read() {
     let fields: OwnFields = right(3, 8, 4096);
     let mut frame = vec![0; 4289];
-    assert_eq!(write_request(2, &fields.lent(), &mut frame), 0);
-    assert_eq!(frame, request_bytes(2, 0x80, &body_bytes(2, &fields)));
+    assert_eq!(write_request(2, &fields.handed(), &mut frame), 0);
+    assert_eq!(frame, frame_bytes(2, &fields));
     assert!(matches!(read_request(&frame), Request(r) if r.fields == fields.lent()));
 }

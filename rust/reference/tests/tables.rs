@@ -4,13 +4,15 @@ mod common;
 
 use common::{blank, call, call_for, mixed_table, setup, OwnFields, FILLER};
 use reference::slot::{self, Place};
-use reference::{listing, table, well_formed, HASH_BYTES, MAX_SLOTS, REPLY_ROOM, SLOT_BYTES};
+use reference::{listing, table, well_formed, Count};
+use reference::{HASH_BYTES, MAX_SLOTS, REPLY_ROOM, SLOT_BYTES};
 
 /// The slots of the mixed table.
 const ENABLED: usize = 0;
 const RESERVED: usize = SLOT_BYTES;
 const DISABLED: usize = 2 * SLOT_BYTES;
 const EMPTY: usize = 3 * SLOT_BYTES;
+const SECOND: usize = 4 * SLOT_BYTES;
 
 /// Asserts that every function refuses a table and leaves it unchanged.
 fn assert_refused(number: u16, before: &[u8], what: &str) {
@@ -45,7 +47,9 @@ fn accessors_read_the_mixed_table() {
 
     assert_eq!(slot::handle(&slots[0]), [1; 10]);
     assert_eq!(slot::key(&slots[0]), [0x61; 16]);
-    assert_eq!(slot::count(&slots[0]), 0x101);
+    assert_eq!(slot::count(&slots[0]), Count::Kept(0x101));
+    assert_eq!(slot::count_number(&slots[0]), 0x101);
+    assert_eq!(slot::count(&slots[4]), Count::NotKept);
     assert_eq!(slot::length(&slots[0]), 33);
     assert_eq!(slot::hash_count(&slots[0]), 2);
     assert_eq!(slot::hashes(&slots[0]), [[1; 20], [2; 20]].as_flattened());
@@ -64,22 +68,31 @@ fn accessors_read_the_mixed_table() {
 #[test]
 fn each_rule_alone_is_103() {
     let rows: &[(&str, &[(usize, u8)])] = &[
-        ("low spare bit", &[(ENABLED, 0x89)]),
-        ("high spare bit", &[(ENABLED, 0x8A)]),
+        ("spare bit", &[(ENABLED, 0x8B)]),
+        ("spare bit of a reserved slot", &[(RESERVED, 0x41)]),
+        ("count without its bit, enabled", &[(ENABLED, 0x88)]),
+        ("count without its bit, disabled", &[(DISABLED, 0xE0)]),
+        ("low byte of a count", &[(SECOND + 28, 1)]),
+        ("high byte of a count", &[(SECOND + 27, 0x80)]),
         ("byte 191 of an enabled slot", &[(ENABLED + 191, 1)]),
         ("byte 191 of a reserved slot", &[(RESERVED + 191, 0x80)]),
-        ("hash count 9", &[(DISABLED, 0xE4)]),
-        ("hash count 15", &[(DISABLED, 0xFC)]),
+        ("hash count 9", &[(DISABLED, 0xE6)]),
+        ("hash count 15", &[(DISABLED, 0xFE)]),
         ("first byte after the hashes", &[(ENABLED + 71, 1)]),
         ("last byte after the hashes", &[(ENABLED + 190, 1)]),
-        ("hashes beyond a lowered count", &[(DISABLED, 0xDC)]),
+        ("hashes beyond a lowered count", &[(DISABLED, 0xDE)]),
         ("first byte after the payload", &[(ENABLED + 192 + 33, 1)]),
         ("last byte after the payload", &[(ENABLED + 4287, 1)]),
         (
             "payload beyond a lowered length",
             &[(DISABLED + 29, 0x0F), (DISABLED + 30, 0xFF)],
         ),
-        ("empty with a spare bit", &[(EMPTY, 1)]),
+        ("empty with the spare bit", &[(EMPTY, 1)]),
+        ("empty with the count's bit", &[(EMPTY, 2)]),
+        (
+            "empty with a count and its bit",
+            &[(EMPTY, 2), (EMPTY + 28, 1)],
+        ),
         ("empty with a hash count", &[(EMPTY, 4)]),
         ("empty with a handle", &[(EMPTY + 10, 1)]),
         ("empty with a key", &[(EMPTY + 11, 1)]),
@@ -87,7 +100,7 @@ fn each_rule_alone_is_103() {
         ("empty with a length", &[(EMPTY + 30, 1)]),
         ("empty with a hash", &[(EMPTY + 31, 1)]),
         ("empty with a payload", &[(EMPTY + 192, 1)]),
-        ("a right in a slot marked empty", &[(ENABLED, 0x08)]),
+        ("a right in a slot marked empty", &[(ENABLED, 0x0A)]),
         ("reserved, length 0", &[(RESERVED + 30, 0)]),
         (
             "reserved, length 4,097",
@@ -96,6 +109,11 @@ fn each_rule_alone_is_103() {
         ("reserved with a hash count", &[(RESERVED, 0x44)]),
         ("reserved with a key", &[(RESERVED + 26, 1)]),
         ("reserved with a count", &[(RESERVED + 27, 1)]),
+        ("reserved with the count's bit", &[(RESERVED, 0x42)]),
+        (
+            "reserved with a count and its bit",
+            &[(RESERVED, 0x42), (RESERVED + 28, 1)],
+        ),
         ("reserved with a hash", &[(RESERVED + 31, 1)]),
         ("reserved, payload in the room", &[(RESERVED + 192, 1)]),
         (
@@ -116,6 +134,27 @@ fn each_rule_alone_is_103() {
             table[offset] = byte;
         }
         assert_refused(103, &table, what);
+    }
+}
+
+/// With the bit, a right may have any count, 0 too; without it only 0.
+#[test]
+fn counts_of_rights() {
+    for place in [0x80, 0xC0] {
+        for number in [0, 1, 0xFF, 0x100, 0xFFFF] {
+            let mut table = blank(1);
+            table[0] = place;
+            table[27..29].copy_from_slice(&u16::to_be_bytes(number));
+            table[30] = 1;
+            match number {
+                0 => assert!(well_formed(&table)),
+                _ => assert_refused(103, &table, "a count without its bit"),
+            }
+            table[0] |= 2;
+            assert!(well_formed(&table), "a kept count of {number}");
+            table[0] |= 1;
+            assert_refused(103, &table, "the spare bit");
+        }
     }
 }
 

@@ -3,7 +3,7 @@
 #![allow(dead_code)] // no test file uses all of it
 
 use random::Rng;
-use reference::{Fields, Handle, Key, HASH_BYTES, REPLY_ROOM, SLOT_BYTES};
+use reference::{Count, Fields, Handle, Key, WriterFields, HASH_BYTES, REPLY_ROOM, SLOT_BYTES};
 
 /// What reply buffers hold before a call.
 pub const FILLER: u8 = 0xA5;
@@ -15,7 +15,7 @@ pub struct OwnFields {
     pub new_handle: Handle,
     pub key: Key,
     pub length: u16,
-    pub count: u16,
+    pub count: Count,
     pub limit: u16,
     pub hashes: Vec<u8>,
     pub payload: Vec<u8>,
@@ -33,6 +33,11 @@ impl OwnFields {
             hashes: &self.hashes,
             payload: &self.payload,
         }
+    }
+
+    /// The same, as the writer is handed them.
+    pub fn handed(&self) -> WriterFields<'_> {
+        self.lent().into()
     }
 }
 
@@ -67,6 +72,15 @@ impl Asker {
         }
     }
 
+    fn count(&self, rng: &mut Rng) -> Count {
+        match rng.below(6) {
+            0..2 => Count::NotKept,
+            2..4 => Count::Kept(0),
+            4 => Count::Kept(rng.pick(&[1, 0xFF, 0x100, 0xFFFF])),
+            _ => Count::Kept(rng.word()),
+        }
+    }
+
     fn payload_length(&self, rng: &mut Rng) -> usize {
         match rng.below(12) {
             0 => rng.pick(&[1, 4095, 4096]),
@@ -84,13 +98,13 @@ impl Asker {
             1 => fields.length = self.setup_length(rng),
             2 => {
                 fields.key = [rng.byte(); 16];
-                fields.count = rng.byte().into();
+                fields.count = self.count(rng);
                 fields.hashes = self.hashes(rng);
                 let length = self.payload_length(rng);
                 fields.payload = rng.bytes(length);
             }
             3 | 4 => fields.new_handle = self.handle(rng),
-            5 => fields.count = rng.word(),
+            5 => fields.count = self.count(rng),
             8 => {
                 fields.limit = rng.pick(&[0, 0, 1, 9, 10, 19, 20, 55, 149, 150, 0xFFFF]);
                 fields.hashes = self.hashes(rng);
@@ -105,7 +119,7 @@ impl Asker {
     pub fn frame(&self, rng: &mut Rng) -> Vec<u8> {
         let kind = rng.pick(&[1, 1, 1, 2, 2, 2, 2, 3, 4, 4, 5, 5, 6, 7, 8, 8, 9]);
         let fields = self.fields(rng, kind);
-        let mut frame = request_bytes(kind, 0x80, &body_bytes(kind, &fields));
+        let mut frame = frame_bytes(kind, &fields);
         if rng.one_in(6) {
             spoil(rng, &mut frame);
         }
@@ -115,7 +129,7 @@ impl Asker {
 
 /// Changes a frame of 4 bytes or more in a way that some test should notice.
 fn spoil(rng: &mut Rng, frame: &mut Vec<u8>) {
-    match rng.below(8) {
+    match rng.below(9) {
         0 => frame[0] = rng.byte(),
         1 => frame[1] = rng.byte(),
         2 => frame[1] = 0,
@@ -129,6 +143,7 @@ fn spoil(rng: &mut Rng, frame: &mut Vec<u8>) {
             let body = rng.bytes(frame.len() % 64);
             *frame = request_bytes(frame[0] & 31, 0x80, &body);
         }
+        7 => frame[1] ^= 0x40,
         _ => {
             let kind = rng.pick(&[0, 10, 16, 31]);
             *frame = request_bytes(kind, 0x80, &frame[4..]);
@@ -144,6 +159,16 @@ pub fn request_bytes(kind: u8, second: u8, body: &[u8]) -> Vec<u8> {
     frame
 }
 
+/// The frame of a request that the writer takes, put together without the
+/// library.
+pub fn frame_bytes(kind: u8, fields: &OwnFields) -> Vec<u8> {
+    let second = match fields.count {
+        Count::NotKept => 0x80,
+        Count::Kept(_) => 0xC0,
+    };
+    request_bytes(kind, second, &body_bytes(kind, fields))
+}
+
 /// The body of a request, put together without the library.
 pub fn body_bytes(kind: u8, fields: &OwnFields) -> Vec<u8> {
     let hash_count = (fields.hashes.len() / HASH_BYTES) as u8;
@@ -153,14 +178,14 @@ pub fn body_bytes(kind: u8, fields: &OwnFields) -> Vec<u8> {
         2 => [
             handle,
             &fields.key,
-            &fields.count.to_be_bytes(),
+            &fields.count.number().to_be_bytes(),
             &[hash_count * 16],
             &fields.hashes,
             &fields.payload,
         ]
         .concat(),
         3 | 4 => [handle, &fields.new_handle].concat(),
-        5 => [handle, &fields.count.to_be_bytes()].concat(),
+        5 => [handle, &fields.count.number().to_be_bytes()].concat(),
         8 => [
             fields.limit.to_be_bytes().as_slice(),
             &[hash_count],
@@ -203,14 +228,15 @@ pub fn call(table: &mut [u8], frame: &[u8]) -> Given {
 
 /// Calls the agent and asserts that it gives this status.
 pub fn call_for(status: u8, table: &mut [u8], kind: u8, fields: &OwnFields) -> Vec<u8> {
-    let given = call(table, &request_bytes(kind, 0x80, &body_bytes(kind, fields)));
+    let given = call(table, &frame_bytes(kind, fields));
     assert_eq!(given.number, 0);
-    assert_eq!(given.reply[1], status, "kind {kind}, {fields:?}");
+    assert_eq!(given.reply[1] % 128, status, "kind {kind}, {fields:?}");
     given.reply
 }
 
-/// A table of five slots: enabled with 2 hashes, reserved, disabled with 8
-/// hashes and the longest payload, empty, and enabled with no hash.
+/// A table of five slots: enabled with 2 hashes and a count, reserved, disabled
+/// with 8 hashes, the longest payload and a count, empty, and enabled with no
+/// hash and no count.
 pub fn mixed_table() -> Vec<u8> {
     let mut table = blank(5);
     for (handle, length) in [(1, 40), (2, 7), (3, 4096), (0, 3), (4, 9)] {
@@ -218,7 +244,7 @@ pub fn mixed_table() -> Vec<u8> {
     }
     call_for(0, &mut table, 2, &right(1, 2, 33));
     call_for(0, &mut table, 2, &right(3, 8, 4096));
-    call_for(0, &mut table, 2, &right(4, 0, 9));
+    call_for(0, &mut table, 2, &uncounted(right(4, 0, 9)));
     let lending = OwnFields {
         handle: [3; 10],
         new_handle: [5; 10],
@@ -238,12 +264,20 @@ pub fn setup(handle: u8, length: u16) -> OwnFields {
     }
 }
 
-/// The fields of an installation under ten bytes `handle`.
+/// The fields of an installation, or of a return, that keeps no count.
+pub fn uncounted(fields: OwnFields) -> OwnFields {
+    OwnFields {
+        count: Count::NotKept,
+        ..fields
+    }
+}
+
+/// The fields of an installation under ten bytes `handle`, with a count.
 pub fn right(handle: u8, hashes: u8, payload: usize) -> OwnFields {
     OwnFields {
         handle: [handle; 10],
         key: [0x60 + handle; 16],
-        count: 0x100 + u16::from(handle),
+        count: Count::Kept(0x100 + u16::from(handle)),
         hashes: (1..=hashes).flat_map(|hash| [hash; HASH_BYTES]).collect(),
         payload: (0..payload).map(|index| index as u8 | 1).collect(),
         ..OwnFields::default()
