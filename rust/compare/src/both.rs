@@ -1,6 +1,7 @@
-//! One call after another, made by the archive and by the reference.
+//! One call after another, and turnings, made by the archive and by the
+//! reference.
 
-use driver::{Call, Driver};
+use driver::{Call, Driver, Turned};
 
 /// A table lent to the archive, and an equal one lent to the reference.
 pub struct Both {
@@ -36,6 +37,31 @@ impl Both {
         };
         if let Err(difference) = given.same_as(&expected) {
             panic!("a frame of {} bytes: {difference}", frame.len());
+        }
+        given
+    }
+
+    /// The table, as the calls have left it.
+    pub fn table(&self) -> &[u8] {
+        &self.table
+    }
+
+    /// Turns the table.
+    ///
+    /// # Panics
+    ///
+    /// Where the archive and the reference differ.
+    pub fn turn(&mut self) -> Turned {
+        let mut table = self.table.clone();
+        let number = self.driver.turn(&mut table);
+        let given = Turned { number, table };
+        let number = reference::turn(&mut self.table);
+        let expected = Turned {
+            number,
+            table: self.table.clone(),
+        };
+        if let Err(difference) = given.same_as(&expected) {
+            panic!("a turning: {difference}");
         }
         given
     }

@@ -4,13 +4,13 @@
 //! compared; so are the listings of the table after each call.
 
 use crate::frames::Asker;
-use crate::outcome::{Counts, Outcome};
+use crate::outcome::{Counted, Counts, Outcome, Return, Returns};
 use crate::pipeline::{self, Giver};
 use crate::tables::{blank, damaged, listing_buffer, reply_buffer};
 use driver::{Call, Listed, Same};
 use random::Rng;
-use reference::ledger::{agrees, Ledger};
-use reference::{read_request, ReadRequest, MAX_SLOTS};
+use reference::ledger::{agrees, Ledger, Standing};
+use reference::{read_request, Kind, ReadRequest, Request, MAX_SLOTS};
 use std::collections::BTreeMap;
 use std::io::Result;
 
@@ -41,6 +41,8 @@ struct Expected {
 pub struct Seen {
     /// The outcomes of the calls.
     pub calls: Counts,
+    /// The returns that succeeded.
+    pub returns: Returns,
     /// The first lines of the listings: the header, or a refusal.
     pub listings: BTreeMap<String, u64>,
 }
@@ -138,7 +140,7 @@ impl Checker {
             .same_as(&expected.call)
             .and_then(|()| listed.same_as(&expected.listed))
             .and_then(|()| {
-                let outcome = Outcome::of(given.number, &given.reply);
+                let outcome = Outcome::of(given.number, &expected.frame, &given.reply);
                 *self.seen.calls.entry(outcome).or_default() += 1;
                 let first = first_line(listed);
                 *self.seen.listings.entry(first).or_default() += 1;
@@ -161,8 +163,35 @@ impl Checker {
             History::Begins => self.ledger = Ledger::new(),
             History::GoesOn => {}
         }
-        tell(&mut self.ledger, &call.frame, outcome);
+        self.tell(&call.frame, outcome);
         agrees(&self.ledger, table)
+    }
+
+    /// Tells the ledger the request, if the frame is one and had a reply.
+    fn tell(&mut self, frame: &[u8], outcome: Outcome) {
+        if let (Outcome::Replied { status, .. }, ReadRequest::Request(request)) =
+            (outcome, read_request(frame))
+        {
+            if status == 0 && request.kind == Kind::RightsEnablement {
+                self.note_return(&request);
+            }
+            self.ledger.tell(&request, status);
+        }
+    }
+
+    /// Notes a return, by the ledger as it is before it.
+    fn note_return(&mut self, request: &Request<'_>) {
+        let fields = &request.fields;
+        let mut rights = self.ledger.rights().iter();
+        let returned = rights
+            .find(|right| right.standing != Standing::Gone && right.handle == fields.handle)
+            .expect("the ledger agreed with the table, which has the right");
+        let noted = Return {
+            lent: returned.standing == Standing::Lent,
+            before: Counted::of(returned.count),
+            sent: Counted::of(fields.count),
+        };
+        *self.seen.returns.entry(noted).or_default() += 1;
     }
 }
 
@@ -170,15 +199,6 @@ impl Checker {
 fn first_line(listed: &Listed) -> String {
     let line = listed.out.split(|&byte| byte == b'\n').next();
     String::from_utf8_lossy(line.expect("there is one")).into_owned()
-}
-
-/// Tells the ledger the request, if the frame is one and had a reply.
-fn tell(ledger: &mut Ledger, frame: &[u8], outcome: Outcome) {
-    if let (Outcome::Replied { status, .. }, ReadRequest::Request(request)) =
-        (outcome, read_request(frame))
-    {
-        ledger.tell(&request, status);
-    }
 }
 
 /// A call in words, with as much of its frame as can be looked at.

@@ -1,18 +1,48 @@
 //! Requests written and replies read, at random.
 
 use crate::frames::{count, frame, payload_length, room, Asker};
+use crate::outcome::Counted;
 use crate::pipeline;
 use driver::{Numbers, Read, Written};
 use random::Rng;
-use reference::{read_reply, write_request, Fields, Handle, Key, Reply, Status};
+use reference::{read_reply, write_request, Count, Handle, Key, Reply, Status, WriterFields};
 use reference::{HANDLE_BYTES, HASH_BYTES};
 use std::collections::BTreeMap;
 
-/// How often each number occurred, with each kind asked for.
-pub type WriterCounts = BTreeMap<(u16, u8), u64>;
+/// How often each number occurred, with each kind asked for and what count and
+/// `kept` say.
+pub type WriterCounts = BTreeMap<(u16, u8, Handed), u64>;
 
-/// How often each number occurred, with each kind and status; 203 has neither.
-pub type ReaderCounts = BTreeMap<(u16, u8, u8), u64>;
+/// How often each number occurred, with each kind and status and what the reply
+/// says of a count; 203 has none of them.
+pub type ReaderCounts = BTreeMap<(u16, u8, u8, Counted), u64>;
+
+/// What the writer is handed as a count.
+#[derive(Clone, Copy, Debug, PartialEq, Eq, PartialOrd, Ord)]
+pub enum Handed {
+    /// A count, or that none is kept.
+    Count(Counted),
+    /// A number other than 0 and a `kept` of 0.
+    NumberAlone,
+    /// A `kept` that is neither 0 nor 1.
+    NoBit,
+}
+
+impl Handed {
+    /// What this count and this `kept` say.
+    fn of(count: u16, kept: u8) -> Handed {
+        let said = match kept {
+            0 | 1 => Count::said(kept == 1, count),
+            _ => return Handed::NoBit,
+        };
+        said.map_or(Handed::NumberAlone, |count| {
+            Handed::Count(Counted::of(count))
+        })
+    }
+}
+
+/// The bit of a reply's second byte that says that a count is kept.
+const KEPT: u8 = 0x80;
 
 /// The fields of a request, with hashes and payload of its own.
 #[derive(Clone, Debug, Default)]
@@ -22,19 +52,21 @@ struct OwnFields {
     key: Key,
     length: u16,
     count: u16,
+    kept: u8,
     limit: u16,
     hashes: Vec<u8>,
     payload: Vec<u8>,
 }
 
 impl OwnFields {
-    fn lent(&self) -> Fields<'_> {
-        Fields {
+    fn lent(&self) -> WriterFields<'_> {
+        WriterFields {
             handle: self.handle,
             new_handle: self.new_handle,
             key: self.key,
             length: self.length,
             count: self.count,
+            kept: self.kept,
             limit: self.limit,
             hashes: &self.hashes,
             payload: &self.payload,
@@ -48,6 +80,7 @@ impl OwnFields {
             key: &self.key,
             room: self.length,
             count: self.count,
+            kept: self.kept,
             limit: self.limit,
             hashes: &self.hashes,
             payload: &self.payload,
@@ -80,8 +113,11 @@ impl OwnFields {
             b'n' => self.new_handle = asker.handle(rng),
             b'k' => self.key = [0; 16].map(|_: u8| rng.byte()),
             b'l' => self.length = room(rng),
-            b'c' => self.count = count(rng),
-            b'i' => self.limit = count(rng),
+            b'c' => {
+                let count = count(rng);
+                (self.count, self.kept) = (count.number, count.kept.into());
+            }
+            b'i' => self.limit = count(rng).number,
             b'a' => self.hashes = asker.hashes(rng),
             _ => {
                 let length = payload_length(rng);
@@ -92,7 +128,7 @@ impl OwnFields {
 
     /// Changes a field in a way that the writer may refuse.
     fn spoil(&mut self, rng: &mut Rng, asker: &Asker) {
-        match rng.below(6) {
+        match rng.below(8) {
             0 => {
                 let length = rng.pick(&[0, 1, 4096, 4097]);
                 self.payload = rng.bytes(length);
@@ -103,6 +139,10 @@ impl OwnFields {
             }
             2 => self.key[rng.below(16)] = rng.bit(8),
             3 => self.new_handle[rng.below(HANDLE_BYTES)] = rng.bit(8),
+            4..6 => {
+                self.count = rng.pick(&[0, 0, 0, 1, 0x100, 0xFFFF]);
+                self.kept = rng.pick(&[0, 0, 1, 1, 2, 255]);
+            }
             _ => {
                 let name = rng.pick(b"hnklciap");
                 self.set(rng, asker, name);
@@ -139,14 +179,15 @@ pub fn compare_writers(mut rng: Rng, calls: u64) -> WriterCounts {
             if let Err(difference) = given.same_as(&expected) {
                 panic!("kind {kind} and {fields:02x?}: {difference}");
             }
-            *counts.entry((given.number, kind)).or_default() += 1;
+            let handed = Handed::of(fields.count, fields.kept);
+            *counts.entry((given.number, kind, handed)).or_default() += 1;
         },
     );
     counts
 }
 
 /// A buffer about as long as the frame.
-fn out_buffer(rng: &mut Rng, kind: u8, fields: &Fields<'_>) -> Vec<u8> {
+fn out_buffer(rng: &mut Rng, kind: u8, fields: &WriterFields<'_>) -> Vec<u8> {
     let mut long = [0; 4300];
     let length = match write_request(kind, fields, &mut long) {
         0 => 4 + usize::from(u16::from_be_bytes([long[2], long[3]])),
@@ -171,27 +212,37 @@ pub fn compare_readers(rng: Rng, calls: u64) -> ReaderCounts {
     let asker = Asker::new(4);
     let replies = move |rng: &mut Rng, _| asker.reply(rng);
     read_each(rng, calls, replies, |_, given| {
-        let [kind, status] = match given.number {
-            0 => [given.numbers[0] as u8, given.numbers[1] as u8],
-            _ => [0, 0],
+        let told = match given.number {
+            0 => told(given),
+            number => (number, 0, 0, Counted::Nothing),
         };
-        *counts.entry((given.number, kind, status)).or_default() += 1;
+        *counts.entry(told).or_default() += 1;
     });
     counts
 }
 
-/// Has a reply without a body read for every kind with every number as its
-/// status, and checks each. Gives kind and status of those accepted.
+/// Kind, status and count of a reply that was read.
+fn told(given: &Read) -> (u16, u8, u8, Counted) {
+    let [kind, status] = [given.numbers[0] as u8, given.numbers[1] as u8];
+    let counted = match (kind, status) {
+        (3 | 9, 0) => Count::said(given.numbers[10] != 0, given.numbers[2])
+            .map_or(Counted::Nothing, Counted::of),
+        _ => Counted::Nothing,
+    };
+    (given.number, kind, status, counted)
+}
+
+/// Has these replies read, and checks each. Gives those accepted.
 ///
 /// # Panics
 ///
 /// Where the archive and the reference differ.
-pub fn accepted_without_body(rng: Rng) -> Vec<(u8, u8)> {
+pub fn accepted(rng: Rng, replies: &[Vec<u8>]) -> Vec<Vec<u8>> {
     let mut accepted = Vec::new();
-    let replies = |_: &mut Rng, call: u64| frame((call / 256) as u8, (call % 256) as u8, &[]);
-    read_each(rng, 32 * 256, replies, |reply, given| {
+    let reply = |_: &mut Rng, call: u64| replies[call as usize].clone();
+    read_each(rng, replies.len() as u64, reply, |reply, given| {
         if given.number == 0 {
-            accepted.push((reply[0] & 31, reply[1]));
+            accepted.push(reply.to_vec());
         }
     });
     accepted
@@ -210,7 +261,7 @@ fn read_each(
             for call in 0..calls {
                 let frame = reply(&mut rng, call);
                 let key = [0; 16].map(|_: u8| rng.byte());
-                let numbers = [0; 10].map(|_: u16| rng.word());
+                let numbers = Numbers::default().map(|_| rng.word());
                 giver.commands.read_reply(&frame, &key, &numbers)?;
                 let expected = expected(&frame, key, numbers);
                 giver.expect((frame, expected))?;
@@ -243,9 +294,9 @@ fn expected(frame: &[u8], key: Key, numbers: Numbers) -> Read {
     }
 }
 
-/// The ten numbers of a reply: kind, status, count, number and offset of the
+/// The eleven numbers of a reply: kind, status, count, number and offset of the
 /// hashes, offset and length of the payload, more, number and offset of the
-/// handles.
+/// handles, and whether a count is kept.
 fn numbers_of(reply: &Reply<'_>, frame: &[u8]) -> Numbers {
     let fields = &reply.fields;
     let (hashes_at, payload_at, handles_at) = match (reply.status, reply.kind) {
@@ -260,7 +311,7 @@ fn numbers_of(reply: &Reply<'_>, frame: &[u8]) -> Numbers {
     [
         reply.kind.into(),
         reply.status.number().into(),
-        fields.count.into(),
+        fields.count.number().into(),
         fields.hashes.len() / HASH_BYTES,
         hashes_at,
         payload_at,
@@ -268,35 +319,46 @@ fn numbers_of(reply: &Reply<'_>, frame: &[u8]) -> Numbers {
         fields.more.into(),
         fields.handles.len() / HANDLE_BYTES,
         handles_at,
+        fields.count.is_kept().into(),
     ]
     .map(|number| u16::try_from(number).expect("no number is so large"))
 }
 
 impl Asker {
-    /// A reply frame; one in three is spoiled.
+    /// A reply frame; one in three is spoiled, and one in ten has the other bit of
+    /// a count.
     fn reply(&self, rng: &mut Rng) -> Vec<u8> {
         let mut reply = match rng.below(4) {
             0 => frame(rng.below(32) as u8, rng.below(10) as u8, &[]),
             _ => {
                 let kind = 1 + rng.below(9) as u8;
-                frame(kind, 0, &self.given(rng, kind))
+                let count = count(rng);
+                let second = match kind {
+                    3 | 9 if count.kept => KEPT,
+                    _ => 0,
+                };
+                frame(kind, second, &self.given(rng, kind, count.number))
             }
         };
+        if rng.one_in(10) {
+            reply[1] ^= KEPT;
+        }
         if rng.one_in(3) {
             self.spoil(rng, &mut reply);
         }
         reply
     }
 
-    /// The body of a success, now and then a little too long or too short.
-    fn given(&self, rng: &mut Rng, kind: u8) -> Vec<u8> {
+    /// The body of a success, with this number if it has a count; now and then a
+    /// little too long or too short.
+    fn given(&self, rng: &mut Rng, kind: u8, count: u16) -> Vec<u8> {
         let length = match rng.below(8) {
             0 => rng.pick(&[0, 4096, 4097]),
             _ => payload_length(rng),
         };
         let payload = rng.bytes(length);
         let key = rng.bytes(16);
-        let count = count(rng).to_be_bytes();
+        let count = count.to_be_bytes();
         match kind {
             3 => {
                 let hashes = self.hashes(rng);

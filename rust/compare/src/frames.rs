@@ -9,6 +9,9 @@ type Hash = [u8; HASH_BYTES];
 /// The verdict: the highest bit of the second byte, set where the MAC held.
 const VERDICT: u8 = 0x80;
 
+/// The bit of the second byte that says that a count is kept, in kinds 2 and 5.
+const KEPT: u8 = 0x40;
+
 /// The kinds outside 1 to 9.
 pub const KINDS_OUTSIDE: [u8; 23] = [
     0, 10, 11, 12, 13, 14, 15, 16, 17, 18, 19, 20, 21, 22, 23, 24, 25, 26, 27, 28, 29, 30, 31,
@@ -43,8 +46,10 @@ impl Asker {
 
     /// A frame; one in five is spoiled, some of them more than once.
     pub fn frame(&self, rng: &mut Rng) -> Vec<u8> {
-        let kind = rng.pick(&[1, 1, 1, 1, 2, 2, 2, 2, 3, 3, 4, 4, 5, 5, 6, 7, 8, 8, 9]);
-        let mut frame = frame(kind, VERDICT, &self.body(rng, kind));
+        let kind = rng.pick(&[
+            1, 1, 1, 1, 2, 2, 2, 2, 3, 3, 3, 4, 4, 4, 5, 5, 5, 5, 6, 7, 8, 8, 9,
+        ]);
+        let mut frame = self.request(rng, kind);
         let mut again = 5;
         while rng.one_in(again) {
             self.spoil(rng, &mut frame);
@@ -53,23 +58,35 @@ impl Asker {
         frame
     }
 
-    /// A body of the kind's shape.
-    fn body(&self, rng: &mut Rng, kind: u8) -> Vec<u8> {
+    /// A frame of the kind's shape. One in twelve of those that have a count has
+    /// it without its bit.
+    fn request(&self, rng: &mut Rng, kind: u8) -> Vec<u8> {
+        let mut count = count(rng);
+        count.kept &= !rng.one_in(12);
+        let second = match kind {
+            2 | 5 if count.kept => VERDICT | KEPT,
+            _ => VERDICT,
+        };
+        frame(kind, second, &self.body(rng, kind, count.number))
+    }
+
+    /// A body of the kind's shape, with this number if it has a count.
+    fn body(&self, rng: &mut Rng, kind: u8, count: u16) -> Vec<u8> {
         let handle = self.handle(rng);
         match kind {
             1 => [&handle[..], &room(rng).to_be_bytes()].concat(),
             2 => {
                 let length = payload_length(rng);
-                self.installation(rng, &handle, length)
+                self.installation(rng, &handle, count, length)
             }
             3 | 4 => [handle, self.handle(rng)].concat(),
-            5 => [&handle[..], &count(rng).to_be_bytes()].concat(),
+            5 => [&handle[..], &count.to_be_bytes()].concat(),
             8 => self.list(rng),
             _ => handle.to_vec(),
         }
     }
 
-    fn installation(&self, rng: &mut Rng, handle: &Handle, payload: usize) -> Vec<u8> {
+    fn installation(&self, rng: &mut Rng, handle: &Handle, count: u16, payload: usize) -> Vec<u8> {
         let key = match rng.below(8) {
             0 => vec![0; 16],
             _ => rng.bytes(16),
@@ -78,7 +95,7 @@ impl Asker {
         [
             handle,
             &key[..],
-            &count(rng).to_be_bytes(),
+            &count.to_be_bytes(),
             &[hash_count(&hashes) << 4],
             &hashes,
             &self.payload(rng, payload),
@@ -115,12 +132,13 @@ impl Asker {
         if frame.len() < 4 {
             return frame.push(rng.byte());
         }
-        match rng.below(6) {
+        match rng.below(7) {
             0 => spoil_first(rng, frame),
             1 => spoil_second(rng, frame),
             2 => spoil_length(rng, frame),
             3 => spoil_hash_count(rng, frame),
-            4 => {
+            4 => spoil_kind(rng, frame),
+            5 => {
                 let index = rng.below(frame.len());
                 frame[index] ^= rng.bit(8);
             }
@@ -142,7 +160,9 @@ impl Asker {
             }
             _ => {
                 let length = rng.pick(&[0, 0, 1, 4096, 4097]);
-                frame(2, VERDICT, &self.installation(rng, &handle, length))
+                let number = count(rng).number;
+                let body = self.installation(rng, &handle, number, length);
+                frame(2, VERDICT | KEPT, &body)
             }
         }
     }
@@ -158,11 +178,20 @@ fn spoil_first(rng: &mut Rng, frame: &mut [u8]) {
     };
 }
 
-/// Changes the verdict or a zero bit.
+/// Gives the frame a kind outside 1 to 9, and mostly a head that is right but for
+/// the kind.
+fn spoil_kind(rng: &mut Rng, frame: &mut [u8]) {
+    frame[0] = 0x20 + rng.pick(&KINDS_OUTSIDE);
+    frame[1] = rng.pick(&[VERDICT, VERDICT, 0, VERDICT | KEPT, KEPT]);
+}
+
+/// Changes the verdict, the bit of a count or a zero bit.
 fn spoil_second(rng: &mut Rng, frame: &mut [u8]) {
-    frame[1] = match rng.below(4) {
+    frame[1] = match rng.below(6) {
         0 => frame[1] ^ rng.bit(7),
         1 => rng.byte(),
+        2 => frame[1] ^ KEPT,
+        3 => frame[1] & !VERDICT,
         _ => 0,
     };
 }
@@ -243,12 +272,24 @@ pub fn payload_length(rng: &mut Rng) -> usize {
     }
 }
 
-/// The count of a right.
-pub fn count(rng: &mut Rng) -> u16 {
-    match rng.below(4) {
-        0 => 0,
-        _ => rng.word(),
-    }
+/// A count as bytes have it: a bit and a number.
+#[derive(Clone, Copy)]
+pub struct CountBytes {
+    /// The bit: whether a count is kept.
+    pub kept: bool,
+    /// The number.
+    pub number: u16,
+}
+
+/// The count of a right: none, one that is used up, or one that is not.
+pub fn count(rng: &mut Rng) -> CountBytes {
+    let (kept, number) = match rng.below(6) {
+        0..2 => (false, 0),
+        2..4 => (true, 0),
+        4 => (true, rng.pick(&[1, 2, 0xFF, 0x100, 0x8000, 0xFFFF])),
+        _ => (true, rng.word()),
+    };
+    CountBytes { kept, number }
 }
 
 fn hash_count(hashes: &[u8]) -> u8 {

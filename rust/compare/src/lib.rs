@@ -7,10 +7,11 @@
 //! | | |
 //! |---|---|
 //! | [`frames`] | request frames at random, right and wrong ones |
-//! | [`tables`] | damaged tables, and buffers for replies and listings |
+//! | [`tables`] | damaged tables, old ones, and buffers for replies and listings |
 //! | [`pipeline`] | many commands on their way at once |
 //! | [`calls`] | many calls, made at random and checked |
 //! | [`device`] | requests written and replies read, at random |
+//! | [`turning`] | tables from before a count had its bit, turned at random |
 //! | [`both`] | one call after another, on a table chosen by a test |
 //! | [`outcome`] | which outcomes occurred, and which must occur |
 //!
@@ -27,3 +28,4 @@ pub mod frames;
 pub mod outcome;
 pub mod pipeline;
 pub mod tables;
+pub mod turning;

@@ -1,10 +1,17 @@
-//! Damaged tables, and buffers for replies and listings.
+//! Damaged tables, tables from before a count had its bit, and buffers for
+//! replies and listings.
 
 use random::Rng;
 use reference::{MAX_SLOTS, REPLY_ROOM, SLOT_BYTES};
 
 /// Room for the longest listing: a header of 31 bytes, and 15 lines of 25.
 const LISTING_ROOM: usize = 406;
+
+/// The bit of a slot's first byte that says that a count is kept.
+const KEPT: u8 = 0x02;
+
+/// The spare bit beside it.
+const SPARE: u8 = 0x01;
 
 /// A table of empty slots.
 pub fn blank(slots: usize) -> Vec<u8> {
@@ -15,10 +22,21 @@ pub fn blank(slots: usize) -> Vec<u8> {
 /// changed bit of a payload, for one.
 pub fn damaged(rng: &mut Rng, table: &[u8]) -> Vec<u8> {
     let mut table = table.to_vec();
-    match rng.below(4) {
+    match rng.below(5) {
         0 => wrong_length(rng, &mut table),
         1 => two_alike(rng, &mut table),
+        2 => another_count(rng, &mut table),
         _ => one_byte(rng, &mut table),
+    }
+    table
+}
+
+/// The table as it was before a count had its bit: the same records, without the
+/// bits. One that is used up keeps none, then.
+pub fn before_turning(table: &[u8]) -> Vec<u8> {
+    let mut table = table.to_vec();
+    for slot in table.chunks_mut(SLOT_BYTES) {
+        slot[0] &= !KEPT;
     }
     table
 }
@@ -47,6 +65,18 @@ fn two_alike(rng: &mut Rng, table: &mut [u8]) {
     match rng.below(2) {
         0 => table.copy_within(from..from + SLOT_BYTES, to),
         _ => table.copy_within(from + 1..from + 11, to + 1),
+    }
+}
+
+/// Changes the count of a slot, whatever its place: the bit, the number or both,
+/// or the spare bit beside the bit.
+fn another_count(rng: &mut Rng, table: &mut [u8]) {
+    let at = rng.below(table.len() / SLOT_BYTES) * SLOT_BYTES;
+    let number: u16 = rng.pick(&[0, 1, 0xFF, 0x100, 0xFFFF]);
+    let bits = rng.pick(&[0, 0, KEPT, KEPT, KEPT, SPARE, KEPT | SPARE]);
+    table[at] ^= bits;
+    if bits == 0 || rng.one_in(2) {
+        table[at + 27..at + 29].copy_from_slice(&number.to_be_bytes());
     }
 }
 

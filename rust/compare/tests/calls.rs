@@ -2,7 +2,7 @@
 //! table that the reference gives, and every table agrees with its history.
 
 use compare::calls::compare;
-use compare::outcome::assert_all_occurred;
+use compare::outcome::{assert_all_occurred, returns_that_can_occur, that_can_occur};
 use random::{setting, Rng};
 
 /// The calls made unless `COMPARE_CALLS` says how many.
@@ -15,7 +15,8 @@ fn random_calls_agree_with_the_reference_and_with_their_history() {
     let made: u64 = seen.calls.values().sum();
     println!("{made} calls");
     assert!(made >= calls);
-    assert_all_occurred(&seen.calls);
+    assert_all_occurred(&seen.calls, that_can_occur());
+    assert_all_occurred(&seen.returns, returns_that_can_occur());
     for (line, count) in &seen.listings {
         println!("{count:>9}  listing: {line}");
     }

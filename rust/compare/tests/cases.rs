@@ -1,5 +1,5 @@
-//! Cases 13 to 15 of the card profile (PROFILE 9.2), and the fullest card that
-//! there can be.
+//! Cases 13 to 17 of the card profile (PROFILE 9.2, 9.3), what else is refused for
+//! the bit of a count, and the fullest card that there can be.
 
 use compare::both::Both;
 use compare::frames::{frame, KINDS_OUTSIDE};
@@ -73,6 +73,186 @@ fn case_15_tables_of_other_lengths_are_102() {
     }
 }
 
+/// The handles, the key and the payload of cases 16 and 17.
+const H1: [u8; 10] = [1; 10];
+const H2: [u8; 10] = [2; 10];
+const K: [u8; 16] = [1, 2, 3, 4, 5, 6, 7, 8, 9, 10, 11, 12, 13, 14, 15, 16];
+const P5: [u8; 5] = [0xA1, 0xA2, 0xA3, 0xA4, 0xA5];
+
+/// The body of an installation under H1, without hashes.
+fn installation(count: u16) -> Vec<u8> {
+    [&H1[..], &K, &count.to_be_bytes(), &[0], &P5].concat()
+}
+
+/// The body of a return of H2.
+fn returning(count: u16) -> Vec<u8> {
+    [&H2[..], &count.to_be_bytes()].concat()
+}
+
+/// A table of one slot after case 1, and after the success of this frame.
+fn after_setup(installed: &[u8]) -> Both {
+    let mut both = Both::on(blank(1));
+    assert_eq!(reply(&mut both, &setup()), [0x21, 0, 0, 0]);
+    assert_eq!(reply(&mut both, installed), [0x22, 0, 0, 0]);
+    both
+}
+
+/// Makes a call on a table of one slot, and asserts the reply, and byte 0 and the
+/// count number that it leaves.
+fn step(both: &mut Both, frame: &[u8], expected: &[u8], byte_0: u8, number: u16) {
+    assert_eq!(reply(both, frame), expected, "{frame:02x?}");
+    let table = both.table();
+    assert_eq!(table[0], byte_0, "{frame:02x?}");
+    assert_eq!(table[27..29], number.to_be_bytes(), "{frame:02x?}");
+}
+
+/// Case 16: a right that was used for the last time is returned with a kept count
+/// of 0. It still keeps one, and every reply about it says so.
+#[test]
+fn case_16_a_count_that_is_used_up_stays_used_up() {
+    let both = &mut after_setup(&frame(2, 0xC0, &installation(1)));
+    let lent = [&[0x24, 0, 0, 16][..], &K].concat();
+    step(both, &frame(4, 0x80, &[H1, H2].concat()), &lent, 0xC2, 1);
+    let returned = [0x25, 0, 0, 0];
+    step(both, &frame(5, 0xC0, &returning(0)), &returned, 0x82, 0);
+    // sent again, with and without a count: a success that changes nothing
+    for (second, number) in [(0xC0, 9), (0x80, 0), (0xC0, 0)] {
+        let again = frame(5, second, &returning(number));
+        step(both, &again, &returned, 0x82, 0);
+    }
+    let told = [&[0x29, 0x80, 0, 7, 0, 0][..], &P5].concat();
+    step(both, &frame(9, 0x80, &H2), &told, 0x82, 0);
+    let right = [&[0x23, 0x80, 0, 0x18][..], &K, &[0, 0, 0], &P5].concat();
+    step(both, &frame(3, 0x80, &[H2, H1].concat()), &right, 0xC2, 0);
+    step(both, &frame(6, 0x80, &H1), &[0x26, 0, 0, 0], 0, 0);
+    assert!(both.table() == blank(1));
+}
+
+/// Each return stores its bit and its number, whatever stood there: it begins a
+/// count, changes it or ends it. Lending leaves both as they are.
+#[test]
+fn a_return_stores_the_bit_with_the_number() {
+    let both = &mut after_setup(&frame(2, 0x80, &installation(0)));
+    let lent = [&[0x24, 0, 0, 16][..], &K].concat();
+    let returned = [0x25, 0, 0, 0];
+    let (mut byte_0, mut number) = (0x80, 0);
+    let (mut from, mut to) = (H1, H2);
+    for (kept, sent) in [
+        (false, 0),
+        (true, 0),
+        (true, 0xFFFF),
+        (false, 0),
+        (true, 1),
+        (true, 0),
+        (false, 0),
+    ] {
+        let lending = frame(4, 0x80, &[from, to].concat());
+        step(both, &lending, &lent, byte_0 + 0x40, number);
+        let second = if kept { 0xC0 } else { 0x80 };
+        (byte_0, number) = (if kept { 0x82 } else { 0x80 }, sent);
+        let back = frame(5, second, &[&to[..], &sent.to_be_bytes()].concat());
+        step(both, &back, &returned, byte_0, number);
+        (from, to) = (to, from);
+    }
+}
+
+/// Case 17: a count without its bit is status 2.
+#[test]
+fn case_17_a_count_without_its_bit_is_2() {
+    let mut both = Both::on(blank(1));
+    reply(&mut both, &setup());
+    for number in [1, 0xFF, 0x100, 0xFFFF] {
+        let refused = [0x22, 2, 0, 0];
+        step(
+            &mut both,
+            &frame(2, 0x80, &installation(number)),
+            &refused,
+            0x40,
+            0,
+        );
+    }
+    let both = &mut after_setup(&frame(2, 0x80, &installation(0)));
+    reply(both, &frame(4, 0x80, &[H1, H2].concat()));
+    for number in [3, 1, 0xFF, 0x100, 0xFFFF] {
+        let refused = [0x25, 2, 0, 0];
+        step(both, &frame(5, 0x80, &returning(number)), &refused, 0xC0, 0);
+    }
+}
+
+/// The tests that a count without its bit comes after, and those before which it
+/// comes: each frame has all later faults as well.
+#[test]
+fn a_count_without_its_bit_is_tested_in_its_order() {
+    let both = &mut after_setup(&frame(2, 0x80, &installation(0)));
+    let long = [&installation(1)[..], &[0; 4092]].concat();
+    let rows: &[(Vec<u8>, u8)] = &[
+        (frame(5, 0x20, &returning(1)[1..]), 2),
+        (frame(5, 0x00, &returning(1)[1..]), 2),
+        (frame(2, 0x00, &installation(1)[..29]), 2),
+        (frame(5, 0x00, &returning(1)), 1),
+        (frame(5, 0x40, &returning(1)), 1),
+        (frame(2, 0x00, &long), 1),
+        // a handle that is absent, and a place that the request is not for
+        (frame(5, 0x80, &returning(1)), 2),
+        (frame(5, 0xC0, &returning(1)), 4),
+        (frame(2, 0x80, &installation(1)), 2),
+        (frame(2, 0xC0, &installation(1)), 6),
+        (frame(2, 0xC0, &long), 2),
+    ];
+    for (sent, status) in rows {
+        let refused = [sent[0], *status, 0, 0];
+        step(both, sent, &refused, 0x80, 0);
+    }
+}
+
+/// For every kind but 2 and 5, known or not, the bit of a count is one of the
+/// zero bits: status 2, whatever the body and the verdict, and before 3.
+#[test]
+fn the_bit_of_a_count_in_other_kinds_is_2() {
+    let mut both = after_setup(&frame(2, 0xC0, &installation(1)));
+    let mut others = KINDS_OUTSIDE.to_vec();
+    others.extend([1, 3, 4, 6, 7, 8, 9]);
+    for kind in others {
+        let bodies: [&[u8]; 5] = [&[], &H1, &[0, 0, 0], &[1; 12], &[H1, H2].concat()];
+        for body in bodies {
+            for second in [0x40, 0xC0] {
+                let refused = [0x20 + kind, 2, 0, 0];
+                step(&mut both, &frame(kind, second, body), &refused, 0x82, 1);
+            }
+        }
+    }
+}
+
+/// What a slot may say of a count, by its place: byte 0 and the count number.
+#[test]
+fn a_count_that_a_slot_cannot_have_is_103() {
+    let query = frame(8, 0x80, &[0, 0, 0]);
+    for place in [0x40, 0x80, 0xC0] {
+        for low in 0..4 {
+            for number in [0, 1, 0x100, 0xFFFF] {
+                let mut table = blank(2);
+                table[SLOT_BYTES] = place | low;
+                table[SLOT_BYTES + 27..SLOT_BYTES + 29].copy_from_slice(&u16::to_be_bytes(number));
+                table[SLOT_BYTES + 30] = 1;
+                let right = match low {
+                    0 => number == 0,
+                    2 => place != 0x40,
+                    _ => false,
+                };
+                match right {
+                    true => drop(reply(&mut Both::on(table), &query)),
+                    false => assert_refused(&table, &query, 103),
+                }
+            }
+        }
+    }
+    for (offset, byte) in [(0, 1), (0, 2), (0, 3), (27, 1), (28, 1)] {
+        let mut table = blank(2);
+        table[SLOT_BYTES + offset] = byte;
+        assert_refused(&table, &query, 103);
+    }
+}
+
 /// Fifteen rights of 8 hashes and 4,096 payload bytes: every list and every
 /// reply is at its longest.
 #[test]
@@ -88,7 +268,7 @@ fn the_fullest_card() {
         let right = rng.bytes(16 + 2 + 1 + 160 + 4096);
         let mut body = [&[n; 10][..], &right].concat();
         body[28] = 0x80;
-        assert_eq!(reply(&mut both, &frame(2, 0x80, &body)), [0x22, 0, 0, 0]);
+        assert_eq!(reply(&mut both, &frame(2, 0xC0, &body)), [0x22, 0, 0, 0]);
     }
     let full = reply(
         &mut both,

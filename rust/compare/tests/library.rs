@@ -1,10 +1,12 @@
 //! The crate `cavernlull` at random: its requests, replies, tables and listings
 //! are those of the reference.
 
-use cavernlull::{AssetHash, Card, Handle, Key, Kind, Reply, Request, Right, Status, Verdict};
+use cavernlull::{AssetHash, Card, Handle, Key, Kind, Reply, Request, Right, Status};
+use cavernlull::{TurnError, Verdict};
 use compare::frames::Asker;
+use compare::tables::{before_turning, blank, damaged};
 use random::Rng;
-use reference::{Fields, ReadRequest, HANDLE_BYTES, HASH_BYTES, MAX_SLOTS, REPLY_ROOM};
+use reference::{Count, Fields, ReadRequest, HANDLE_BYTES, HASH_BYTES, MAX_SLOTS, REPLY_ROOM};
 use std::collections::BTreeSet;
 
 /// The requests made on each of the tables, which have 1 to 15 slots.
@@ -37,7 +39,7 @@ fn request(read: &reference::Request<'_>) -> Request {
         reference::Kind::RekQuery => Request::RekQuery { handle, new_handle },
         reference::Kind::RightsEnablement => Request::RightsEnablement {
             handle,
-            count: fields.count,
+            count: kept(fields.count),
         },
         reference::Kind::RightsRemoval => Request::RightsRemoval { handle },
         reference::Kind::HandleRemoval => Request::HandleRemoval { handle },
@@ -49,10 +51,18 @@ fn request(read: &reference::Request<'_>) -> Request {
     }
 }
 
-fn right(key: reference::Key, count: u16, bytes: &[u8], payload: &[u8]) -> Right {
+/// A count as the library has it.
+fn kept(count: Count) -> Option<u16> {
+    match count {
+        Count::NotKept => None,
+        Count::Kept(number) => Some(number),
+    }
+}
+
+fn right(key: reference::Key, count: Count, bytes: &[u8], payload: &[u8]) -> Right {
     Right {
         key: Key(key),
-        count,
+        count: kept(count),
         hashes: hashes(bytes),
         payload: payload.to_vec(),
     }
@@ -61,7 +71,8 @@ fn right(key: reference::Key, count: u16, bytes: &[u8], payload: &[u8]) -> Right
 /// The frame that the reference writes.
 fn frame(kind: reference::Kind, fields: &Fields<'_>) -> Vec<u8> {
     let mut out = vec![0; 4300];
-    assert_eq!(reference::write_request(kind.number(), fields, &mut out), 0);
+    let number = reference::write_request(kind.number(), &(*fields).into(), &mut out);
+    assert_eq!(number, 0);
     out.truncate(4 + usize::from(u16::from_be_bytes([out[2], out[3]])));
     out
 }
@@ -87,7 +98,7 @@ fn reply(frame: &[u8]) -> Reply {
             }
         }
         (Status::Success, 9) => Reply::Information {
-            count: fields.count,
+            count: kept(fields.count),
             payload: fields.payload.to_vec(),
         },
         (Status::Success, _) => Reply::Done(Kind::from_number(kind).expect("a kind")),
@@ -95,10 +106,21 @@ fn reply(frame: &[u8]) -> Reply {
     }
 }
 
+/// The kind of a reply that tells a count, and the count as far as it matters:
+/// none, one that is used up, or another.
+fn told(reply: &Reply) -> Option<(u8, Option<bool>)> {
+    match reply {
+        Reply::Right(right) => Some((3, right.count.map(|count| count == 0))),
+        Reply::Information { count, .. } => Some((9, count.map(|count| count == 0))),
+        _ => None,
+    }
+}
+
 /// A card of the library, and the reference's table.
 struct Pair {
     card: Card,
     table: Vec<u8>,
+    told: BTreeSet<(u8, Option<bool>)>,
 }
 
 impl Pair {
@@ -116,19 +138,22 @@ impl Pair {
         assert!(self.card.table() == self.table, "{request:?}");
         let listing = self.card.listing().to_string();
         assert_eq!(listing.as_bytes(), reference::listing(&self.table));
-        (buffer[0] & 31, given.expect("a reply").status())
+        let given = given.expect("a reply");
+        self.told.extend(told(&given));
+        (buffer[0] & 31, given.status())
     }
 }
 
 #[test]
 fn typed_requests_have_the_replies_that_the_reference_gives() {
     let mut rng = Rng::announced("typed requests");
-    let mut seen = BTreeSet::new();
+    let (mut seen, mut counts) = (BTreeSet::new(), BTreeSet::new());
     for slots in 1..=MAX_SLOTS {
         let asker = Asker::new(slots);
         let mut pair = Pair {
             card: Card::blank(slots),
-            table: compare::tables::blank(slots),
+            table: blank(slots),
+            told: BTreeSet::new(),
         };
         for _ in 0..REQUESTS {
             let frame = asker.frame(&mut rng);
@@ -140,6 +165,38 @@ fn typed_requests_have_the_replies_that_the_reference_gives() {
                 seen.insert(pair.ask(&read, verdict));
             }
         }
+        counts.extend(pair.told);
     }
     assert_eq!(seen.len(), CAN_OCCUR, "{seen:?}");
+    assert_eq!(counts.len(), 2 * 3, "{counts:?}");
+}
+
+/// Tables that requests filled, without the bits of their counts, some of them
+/// damaged, and each a second time.
+#[test]
+fn old_tables_are_turned_as_the_reference_turns_them() {
+    let mut rng = Rng::announced("typed turnings");
+    let mut seen = BTreeSet::new();
+    for slots in 1..=MAX_SLOTS {
+        let asker = Asker::new(slots);
+        let mut table = blank(slots);
+        for _ in 0..REQUESTS / 4 {
+            for _ in 0..4 {
+                reference::call(&mut table, &asker.frame(&mut rng), &mut [0; REPLY_ROOM]);
+            }
+            let mut old = before_turning(&table);
+            if rng.one_in(3) {
+                old = damaged(&mut rng, &old);
+            }
+            let mut card = Card::from(old.clone());
+            for _ in 0..2 {
+                let number = reference::turn(&mut old);
+                let given = card.turn().map_err(TurnError::number);
+                assert_eq!(given.err().unwrap_or(0), number);
+                assert!(card.table() == old);
+                seen.insert(number);
+            }
+        }
+    }
+    assert_eq!(seen, BTreeSet::from([0, 102, 103]));
 }
