@@ -20,6 +20,12 @@ const COURSE: Handle = Handle(*b"BRAZING-01");
 const LENT: Handle = Handle(*b"LENT-TO-42");
 const OTHER: Handle = Handle(*b"WELDING-07");
 
+/// The handles of a course for one use, before it is lent and while it is lent
+/// the first and the second time.
+const LAST: Handle = Handle(*b"CUTTING-03");
+const FIRST_LENT: Handle = Handle(*b"LENT-TO-43");
+const SECOND_LENT: Handle = Handle(*b"LENT-TO-44");
+
 fn step(title: &'static str, request: Request, expected: Status, why: &'static str) -> Step {
     Step {
         title,
@@ -29,46 +35,113 @@ fn step(title: &'static str, request: Request, expected: Status, why: &'static s
     }
 }
 
-/// The course itself: a key, ten uses, one module, and what the player reads.
-fn right(text: &str) -> Right {
+/// The course itself: a key, how many uses, one module, and what the player
+/// reads.
+fn right(uses: u16, text: &str) -> Right {
     Right {
         key: Key(*b"key of a course!"),
-        count: 10,
+        count: Some(uses),
         hashes: vec![AssetHash(*b"SHA-1 of one module ")],
         payload: text.as_bytes().to_vec(),
     }
 }
 
-/// A course comes onto the card, is lent and returned, and goes.
+/// A course comes onto the card, is lent and returned, and goes; so does one
+/// whose uses run out.
 pub fn steps() -> Vec<Step> {
-    let lending = |handle, new_handle| Request::RekQuery { handle, new_handle };
     let mut steps = loading();
-    steps.extend([
-        step("The course is lent", lending(COURSE, LENT), Status::Success,
-            "The key goes out. On the card the course is disabled, under the handle of who has it."),
-        step("It is lent a second time", lending(COURSE, LENT), Status::HandleNotFound,
-            "No right is under that handle any more, so no second key goes out."),
-        step("The other course is lent under the same handle", lending(OTHER, LENT), Status::DuplicateHandle,
-            "The handle is taken. It is looked for before anything is written: the other course stays as it was."),
-        step("The course comes back", Request::RightsEnablement { handle: LENT, count: 9 }, Status::Success,
-            "It is for use again, with the nine uses that are left."),
-        step("The message is sent again", Request::RightsEnablement { handle: LENT, count: 3 }, Status::Success,
-            "A return whose reply was lost can be repeated. The count of a course for use is not set again."),
-        step("The course is removed", Request::RightsRemoval { handle: LENT }, Status::Success,
-            "Every byte of its slot is 0, the key too."),
-        step("So is the other", Request::RightsRemoval { handle: OTHER }, Status::Success,
-            "The card is as blank as at the start."),
-    ]);
+    steps.extend(lending());
+    steps.extend(using_up());
+    steps.extend(removing());
     steps
+}
+
+fn setup(handle: Handle, room: u16) -> Request {
+    Request::InstallationSetup { handle, room }
+}
+
+fn install(handle: Handle, uses: u16, text: &str) -> Request {
+    Request::RightsInstallation {
+        handle,
+        right: right(uses, text),
+    }
+}
+
+fn lend(handle: Handle, new_handle: Handle) -> Request {
+    Request::RekQuery { handle, new_handle }
+}
+
+fn give_back(handle: Handle, uses: u16) -> Request {
+    Request::RightsEnablement {
+        handle,
+        count: Some(uses),
+    }
+}
+
+/// The course is lent once, and returned.
+fn lending() -> Vec<Step> {
+    vec![
+        step("The course is lent", lend(COURSE, LENT), Status::Success,
+            "The key goes out. On the card the course is disabled, under the handle of who has it."),
+        step("It is lent a second time", lend(COURSE, LENT), Status::HandleNotFound,
+            "No right is under that handle any more, so no second key goes out."),
+        step("The other course is lent under the same handle", lend(OTHER, LENT), Status::DuplicateHandle,
+            "The handle is taken. It is looked for before anything is written: the other course stays as it was."),
+        step("The course comes back", give_back(LENT, 9), Status::Success,
+            "It is for use again, with the nine uses that are left."),
+        step("The message is sent again", give_back(LENT, 3), Status::Success,
+            "A return whose reply was lost can be repeated. The count of a course for use is not set again."),
+    ]
+}
+
+/// A course for one use is lent, comes back used up, and is lent again: a count
+/// is still kept, and it is 0.
+fn using_up() -> Vec<Step> {
+    let retrieval = Request::RightsRetrieval {
+        handle: FIRST_LENT,
+        new_handle: SECOND_LENT,
+    };
+    vec![
+        step("Room for a course that can be used once", setup(LAST, 24), Status::Success,
+            "The third slot is reserved."),
+        step("It is installed", install(LAST, 1, "cutting, module 3"), Status::Success,
+            "Its second byte is c0: bit 40 says that a count is kept. The card stores that with the count."),
+        step("It is lent, for its last use", lend(LAST, FIRST_LENT), Status::Success,
+            "The key goes out."),
+        step("It comes back, used up", give_back(FIRST_LENT, 0), Status::Success,
+            "The count is 0, and bit 40 says that it is kept: this is no course without a count."),
+        step("It is lent again, whole", retrieval, Status::Success,
+            "The second byte of the reply is 80: a count is still kept, and it is 0. The device sees that no use is left."),
+    ]
+}
+
+/// All courses are removed.
+fn removing() -> Vec<Step> {
+    let remove = |handle| Request::RightsRemoval { handle };
+    vec![
+        step(
+            "The first course is removed",
+            remove(LENT),
+            Status::Success,
+            "Every byte of its slot is 0, the key too.",
+        ),
+        step(
+            "So is the one that is used up",
+            remove(SECOND_LENT),
+            Status::Success,
+            "A course can be removed also while it is lent.",
+        ),
+        step(
+            "So is the other",
+            remove(OTHER),
+            Status::Success,
+            "The card is as blank as at the start.",
+        ),
+    ]
 }
 
 /// Two courses are set up and installed, and listed.
 fn loading() -> Vec<Step> {
-    let setup = |handle, room| Request::InstallationSetup { handle, room };
-    let install = |handle, text| Request::RightsInstallation {
-        handle,
-        right: right(text),
-    };
     let list = Request::HandleListQuery {
         limit: 0,
         hashes: vec![],
@@ -82,7 +155,7 @@ fn loading() -> Vec<Step> {
         ),
         step(
             "The course is installed",
-            install(COURSE, "brazing, module 1"),
+            install(COURSE, 10, "brazing, module 1"),
             Status::Success,
             "The right is enabled, and its length is now the payload's.",
         ),
@@ -100,7 +173,7 @@ fn loading() -> Vec<Step> {
         ),
         step(
             "The other course is installed",
-            install(OTHER, "welding, module 7"),
+            install(OTHER, 10, "welding, module 7"),
             Status::Success,
             "Equal keys and counts do not matter: it is a right of its own.",
         ),

@@ -1,4 +1,4 @@
-//! One course on one card, as the order desk sees it: `make demo`.
+//! Courses on one card, as the order desk sees it: `make demo`.
 //!
 //! Each step is a request, with its frame and the card's reply in hex, what
 //! they mean, and the card's listing afterwards.
@@ -51,6 +51,14 @@ fn name(handle: &Handle) -> String {
     String::from_utf8_lossy(&handle.0).into_owned()
 }
 
+/// A count in words.
+fn counted(count: Option<u16>) -> String {
+    match count {
+        None => "no count".to_owned(),
+        Some(uses) => format!("a count of {uses}"),
+    }
+}
+
 /// A request in words.
 fn asked(request: &Request) -> String {
     let kind = request.kind();
@@ -59,9 +67,9 @@ fn asked(request: &Request) -> String {
             format!("{kind}: keep {room} bytes under {}", name(handle))
         }
         Request::RightsInstallation { handle, right } => format!(
-            "{kind}: {} bytes for {} uses under {}",
+            "{kind}: {} bytes with {} under {}",
             right.payload.len(),
-            right.count,
+            counted(right.count),
             name(handle)
         ),
         Request::RightsRetrieval { handle, new_handle }
@@ -69,7 +77,7 @@ fn asked(request: &Request) -> String {
             format!("{kind}: lend {} out as {}", name(handle), name(new_handle))
         }
         Request::RightsEnablement { handle, count } => {
-            format!("{kind}: {} is back, with {count} uses left", name(handle))
+            format!("{kind}: {} is back, with {}", name(handle), counted(*count))
         }
         Request::RightsRemoval { handle }
         | Request::HandleRemoval { handle }
@@ -88,6 +96,10 @@ fn answered(reply: &Reply) -> String {
     let status = reply.status();
     match reply {
         Reply::Key(_) => format!("{status}, with the course's key"),
+        Reply::Right(right) => {
+            let count = counted(right.count);
+            format!("{status}, with the whole course and {count}")
+        }
         Reply::Handles { handles, .. } => {
             let names: Vec<String> = handles.iter().map(name).collect();
             format!(
@@ -115,6 +127,16 @@ mod tests {
         let last = text.rsplit("slot place hashes count length").next();
         let last = last.expect("there is a listing");
         assert_eq!(last.matches(" empty 0 0 0").count(), super::SLOTS);
+    }
+
+    /// The course that is used up goes out with the bit of a kept count, and a
+    /// count of 0.
+    #[test]
+    fn a_course_that_is_used_up_is_lent_with_a_count_of_0() {
+        let text = walk(&Screen::new(false)).expect("it walks");
+        let reply = text.split("and a count of 0\n").nth(1);
+        let reply = reply.expect("one reply has it").trim_start();
+        assert!(reply.starts_with("23 80 "), "{reply}");
     }
 
     #[test]
