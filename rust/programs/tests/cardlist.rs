@@ -10,7 +10,7 @@ use std::time::Duration;
 
 use programs::command;
 use random::Rng;
-use reference::{listing, Place, SLOT_BYTES};
+use reference::{listing, Count, Place, SLOT_BYTES};
 use tables::{any_table, by_requests, empty, reserved, right, LARGEST};
 
 /// What the program prints for the input that `feed` writes.
@@ -126,7 +126,9 @@ fn fifteen_slots_of_every_place_by_requests() {
 
 #[test]
 fn fifteen_slots_of_every_place_by_hand() {
-    let counts = [0, 1, 9, 10, 99, 100, 999, 1000, 9999, 10_000, 65_535];
+    let numbers = [0, 1, 9, 10, 99, 100, 999, 1000, 9999, 10_000, 65_535];
+    let kept = numbers.map(Count::Kept);
+    let counts = [&[Count::NotKept][..], &kept].concat();
     let lengths = [1, 9, 10, 99, 100, 999, 1000, 4095, 4096];
     for place in [Place::Enabled, Place::Disabled] {
         for (turn, &count) in counts.iter().enumerate() {
@@ -140,15 +142,26 @@ fn fifteen_slots_of_every_place_by_hand() {
                     }
                 })
                 .collect();
-            lists(&table, HEADER, &format!("{place:?}, count {count}"));
+            lists(&table, HEADER, &format!("{place:?}, {count:?}"));
         }
+    }
+}
+
+/// The listing shows the number of a count, and not its bit.
+#[test]
+fn a_count_that_is_used_up_is_listed_as_0() {
+    for count in [Count::NotKept, Count::Kept(0)] {
+        assert_eq!(
+            printed(&right(Place::Enabled, 1, 2, count, 5)),
+            "slot place hashes count length\n0 enabled 2 0 5\n"
+        );
     }
 }
 
 #[test]
 fn the_longest_listing_is_whole() {
     let table: Vec<u8> = (0..15)
-        .flat_map(|i| right(Place::Disabled, i, 8, 65_535, 4096))
+        .flat_map(|i| right(Place::Disabled, i, 8, Count::Kept(65_535), 4096))
         .collect();
     let printed = printed(&table);
     assert_eq!(printed, expected(&table));
@@ -160,7 +173,8 @@ fn the_longest_listing_is_whole() {
 type Damage = (&'static str, usize, u8);
 
 const RESERVED_WITH: &[Damage] = &[
-    ("a spare bit", 0, 0x41),
+    ("the spare bit", 0, 0x41),
+    ("the bit of a count", 0, 0x42),
     ("a hash count", 0, 0x44),
     ("a key", 11, 1),
     ("a count", 28, 1),
@@ -169,10 +183,11 @@ const RESERVED_WITH: &[Damage] = &[
     ("a payload byte", 4287, 1),
 ];
 
-/// Damage to a right of two hashes and five payload bytes.
+/// Damage to a right of a kept count, two hashes and five payload bytes.
 const ENABLED_WITH: &[Damage] = &[
-    ("a spare bit", 0, 0x8A),
-    ("9 hashes", 0, 0xA4),
+    ("the spare bit", 0, 0x8B),
+    ("a count without its bit", 0, 0x88),
+    ("9 hashes", 0, 0xA6),
     ("length over 4,096", 29, 0x10),
     ("a byte after its hashes", 71, 1),
     ("byte 191", 191, 1),
@@ -180,7 +195,8 @@ const ENABLED_WITH: &[Damage] = &[
 ];
 
 const EMPTY_WITH: &[Damage] = &[
-    ("a spare bit", 0, 1),
+    ("the spare bit", 0, 1),
+    ("the bit of a count", 0, 2),
     ("a handle", 1, 1),
     ("a length", 30, 1),
 ];
@@ -189,7 +205,7 @@ const EMPTY_WITH: &[Damage] = &[
 fn a_damaged_slot_is_103() {
     let cases = [
         (reserved(9, 5), RESERVED_WITH),
-        (right(Place::Enabled, 9, 2, 7, 5), ENABLED_WITH),
+        (right(Place::Enabled, 9, 2, Count::Kept(7), 5), ENABLED_WITH),
         (empty(), EMPTY_WITH),
     ];
     for (slot, damages) in cases {
@@ -209,7 +225,7 @@ fn a_damaged_slot_is_103() {
 fn two_slots_with_one_handle_are_103() {
     for (first, second) in [(0, 1), (0, 14), (7, 8), (13, 14)] {
         let mut slots: Vec<Vec<u8>> = (0..15).map(|i| reserved(i, 5)).collect();
-        slots[second] = right(Place::Disabled, first as u8, 1, 2, 3);
+        slots[second] = right(Place::Disabled, first as u8, 1, Count::Kept(2), 3);
         let what = format!("slots {first} and {second}");
         lists(&slots.concat(), "refused 103\n", &what);
     }
