@@ -20,11 +20,12 @@ static void random_bytes(uint8_t *s, size_t length) {
 }
 
 /* ---- tables */
-enum { RESERVED = 1, ENABLED = 2 };
+enum { RESERVED = 1, ENABLED = 2, KEPT = 0x02 };
 
+/* A reservation, or a right that keeps a count. */
 static void put_slot(uint8_t *s, int place, unsigned hashes, size_t length) {
     random_bytes(s + 1, 10);
-    s[0] = (uint8_t)(place << 6 | hashes << 2);
+    s[0] = (uint8_t)(place << 6 | hashes << 2 | (place == RESERVED ? 0 : KEPT));
     s[29] = (uint8_t)(length >> 8);
     s[30] = (uint8_t)length;
     if (place == RESERVED) return;
@@ -54,12 +55,12 @@ static void make_handles_alike(struct scenario *s, unsigned but) {
     }
 }
 
-/* ---- requests */
+/* ---- requests, with the verdict 1; those that have a count keep it */
 static void ask(struct scenario *s, unsigned kind, const uint8_t *body, size_t length) {
     struct step *step = &s->steps[s->count++];
     step->length = 4 + length;
     step->frame[0] = (uint8_t)(1 << 5 | kind);
-    step->frame[1] = 128;
+    step->frame[1] = kind == 2 || kind == 5 ? 0xc0 : 0x80;
     step->frame[2] = (uint8_t)(length >> 8);
     step->frame[3] = (uint8_t)length;
     memcpy(step->frame + 4, body, length);

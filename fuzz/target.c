@@ -1,7 +1,8 @@
 /* A coverage-guided fuzz target for the exported functions. An input is a program: the length of the table, and then what is
- * done with it: requests of every kind, frames of any bytes, and changes to bytes of the table. After each call the number,
- * the reply buffer and the table must be those of the agent in C (counterparts/c/agent.c); every request that is written must
- * have the kind asked for and the verdict 1; and every reply must be one that the reply reader takes.
+ * done with it: requests of every kind, frames of any bytes, changes to bytes of the table, and turnings. After each call the
+ * number, the reply buffer and the table must be those of the agent in C (counterparts/c/agent.c); after each turning, number
+ * and table must be those of the turning below; every request that is written must have the kind and the count's bit asked for,
+ * and the verdict 1; and every reply must be one that the reply reader takes.
  *
  * All memory is lent in allocations of exactly its length, so that the address sanitiser sees any access outside it.
  */
@@ -69,12 +70,49 @@ static uint16_t call(struct tables *t, const uint8_t *bytes, size_t length, size
         uint8_t key[CAVERNLULL_KEY_BYTES];
         uint16_t fields[CAVERNLULL_REPLY_NUMBERS];
         if (cavernlull_read_reply(reply, 4 + (size_t)(reply[2] << 8 | reply[3]), key, fields) != 0) abort();
-        if (fields[CAVERNLULL_REPLY_STATUS] != reply[1]) abort();
+        if (fields[CAVERNLULL_REPLY_STATUS] != (reply[1] & 127)) abort();
+        if (fields[CAVERNLULL_REPLY_KEPT] != reply[1] >> 7) abort();
     }
     free(frame);
     free(reply);
     free(other);
     return number;
+}
+
+/* ---- the turning, written plainly */
+static int zeros(const uint8_t *s, size_t from, size_t to) {
+    for (size_t i = from; i < to; i++)
+        if (s[i] != 0) return 0;
+    return 1;
+}
+
+static int well_by_old_rules(const uint8_t *s) {
+    unsigned place = s[0] >> 6, hashes = s[0] >> 2 & 15, length = (unsigned)(s[29] << 8 | s[30]);
+    if (place == 0) return zeros(s, 0, SLOT);
+    if ((s[0] & 3) != 0 || hashes > 8 || length < 1 || length > 4096) return 0;
+    if (place == 1) return hashes == 0 && zeros(s, 11, 29) && zeros(s, 31, SLOT);
+    return zeros(s, 31 + HASH * hashes, 192) && zeros(s, 192 + length, SLOT);
+}
+
+/* Whether a record before offset `at` has the handle of the record there. */
+static int has_handle_before(const uint8_t *table, size_t at) {
+    for (size_t i = 0; i < at; i += SLOT)
+        if (table[i] >> 6 != 0 && table[at] >> 6 != 0 && memcmp(table + i + 1, table + at + 1, HANDLE) == 0) return 1;
+    return 0;
+}
+
+static int is_old_table(const uint8_t *table, size_t length) {
+    for (size_t at = 0; at < length; at += SLOT)
+        if (!well_by_old_rules(table + at) || has_handle_before(table, at)) return 0;
+    return 1;
+}
+
+static uint16_t plain_turn(uint8_t *table, size_t length) {
+    if (length == 0 || length % SLOT != 0 || length / SLOT > CAVERNLULL_MOST_SLOTS) return CAVERNLULL_TABLE_LENGTH;
+    if (!is_old_table(table, length)) return CAVERNLULL_TABLE_NOT_WELL_FORMED;
+    for (size_t at = 0; at < length; at += SLOT)
+        if (!zeros(table + at, 27, 29)) table[at] |= CAVERNLULL_KEPT_IN_SLOT;
+    return CAVERNLULL_DONE;
 }
 
 /* ---- what an input can do */
@@ -86,6 +124,14 @@ static void any_frame(struct input *in, struct tables *t) {
     in->left -= length;
 }
 
+/* The fields of a request; those that its kind lacks stay blank. */
+struct fields {
+    const uint8_t *handle, *other, *key;
+    uint16_t room, count, limit;
+    uint8_t kept;
+    size_t hashes, payload;
+};
+
 /* A request of a kind, written by the writer, about few handles and few hashes. */
 static void request(struct input *in, struct tables *t, unsigned kind) {
     static uint8_t payload[65535], hashes[9 * HASH], out[70000];
@@ -95,29 +141,43 @@ static void request(struct input *in, struct tables *t, unsigned kind) {
     memset(other, names >> 2 & 3, HANDLE);
     for (size_t i = 0; i < sizeof hashes; i++) hashes[i] = (uint8_t)(i / HASH + (names >> 6));
     size_t listed = (names >> 4 & 3) * HASH;
-    uint16_t n = take_length(in), count = take_word(in), number;
+    uint16_t n = take_length(in), count = take_word(in);
+    uint8_t kept = take(in) % 3; /* 2 is refused */
     memset(payload, (int)count, n);
+    struct fields f = {handle, none, none, 0, 0, 0, 0, 0, 0};
     switch (kind) {
-    case 1: number = cavernlull_write_request(1, handle, none, none, n, 0, 0, hashes, 0, payload, 0, out, sizeof out); break;
-    case 2: number = cavernlull_write_request(2, handle, none, payload, 0, count, 0, hashes, listed, payload, n, out, sizeof out); break;
+    case 1: f.room = n; break;
+    case 2: f.key = payload; f.count = count; f.kept = kept; f.hashes = listed; f.payload = n; break;
     case 3:
-    case 4: number = cavernlull_write_request((uint8_t)kind, handle, other, none, 0, 0, 0, hashes, 0, payload, 0, out, sizeof out); break;
-    case 5: number = cavernlull_write_request(5, handle, none, none, 0, count, 0, hashes, 0, payload, 0, out, sizeof out); break;
-    case 8: number = cavernlull_write_request(8, none, none, none, 0, 0, n, hashes, listed, payload, 0, out, sizeof out); break;
-    default: number = cavernlull_write_request((uint8_t)kind, handle, none, none, 0, 0, 0, hashes, 0, payload, 0, out, sizeof out);
+    case 4: f.other = other; break;
+    case 5: f.count = count; f.kept = kept; break;
+    case 8: f.handle = none; f.limit = n; f.hashes = listed; break;
     }
-    if (number != 0) return;
-    if ((out[0] & 31) != kind || out[1] != 128) abort();
+    if (cavernlull_write_request((uint8_t)kind, f.handle, f.other, f.key, f.room, f.count, f.kept, f.limit, hashes, f.hashes,
+                                 payload, f.payload, out, sizeof out) != 0) return;
+    if (f.kept > 1 || (f.count != 0 && f.kept == 0)) abort();
+    if ((out[0] & 31) != kind || out[1] != (f.kept ? 0x80 | CAVERNLULL_KEPT_IN_REQUEST : 0x80)) abort();
     call(t, out, 4 + (size_t)(out[2] << 8 | out[3]), CAVERNLULL_REPLY_ROOM + (names & 1));
 }
 
 /* Changes a byte of the table: one that a rule is about, or any. */
 static void change(struct input *in, struct tables *t) {
-    static const uint16_t offsets[] = {0, 1, 10, 11, 27, 29, 30, 31, 50, 51, 190, 191, 192, 4286, 4287};
+    static const uint16_t offsets[] = {0, 1, 10, 11, 27, 28, 29, 30, 31, 50, 51, 190, 191, 192, 4286, 4287};
     size_t slot = take(in) % 16, where = take(in), at = slot * SLOT;
     at += where < sizeof offsets / sizeof offsets[0] ? offsets[where] : take_word(in) % SLOT;
     uint8_t byte = take(in);
     if (at < t->length) t->ours[at] = t->theirs[at] = byte;
+}
+
+/* Makes the table one of before the bit: no count has it. */
+static void age(struct tables *t) {
+    for (size_t at = 0; at < t->length; at += SLOT) t->ours[at] = t->theirs[at] &= (uint8_t)~CAVERNLULL_KEPT_IN_SLOT;
+}
+
+static void turn(struct input *in, struct tables *t) {
+    if (take(in) & 1) age(t);
+    if (cavernlull_turn(t->ours, t->length) != plain_turn(t->theirs, t->length)) abort();
+    same(t->ours, t->theirs, t->length);
 }
 
 static void list(struct tables *t) {
@@ -152,6 +212,7 @@ int LLVMFuzzerTestOneInput(const uint8_t *bytes, size_t length) {
         else if (what == 11) list(&t);
         else if (what == 12) any_reply(&in);
         else if (what == 13) call(&t, bytes, length, take_length(&in));
+        else if (what == 14) turn(&in, &t);
         else any_frame(&in, &t);
     }
     free(t.ours);

@@ -19,6 +19,7 @@ void *memset(void *to, int byte, size_t length);
 enum { SLOT = 4288, SLOTS = 15, HANDLE = 10, KEY = 16, HASH = 20, HASHES = 8, PAYLOAD = 4096, REPLY = 4279, BLOCK = 512 };
 enum { AT_HANDLE = 1, AT_KEY = 11, AT_COUNT = 27, AT_LENGTH = 29, AT_HASHES = 31, AT_ZERO = 191, AT_PAYLOAD = 192 };
 enum { EMPTY, RESERVED, ENABLED, DISABLED };
+enum { SPARE = 0x01, KEPT = 0x02 }; /* bits of a slot's first byte; KEPT: a count is kept */
 enum { SUCCESS, INTEGRITY, PARAMETER, UNSUPPORTED, NOT_FOUND, DUPLICATE, UNEXPECTED, NO_SPACE };
 
 /* ---- bytes */
@@ -45,12 +46,16 @@ static bool all_zero(const uint8_t *s, size_t n) {
 static unsigned place_of(const uint8_t *s) { return s[0] >> 6; }
 static unsigned hashes_of(const uint8_t *s) { return s[0] >> 2 & 15; }
 
+/* A count without its bit must be 0. */
+static bool is_count(unsigned kept, const uint8_t *count) { return kept || word(count) == 0; }
+
 static bool well_slot(const uint8_t *s) {
     unsigned place = place_of(s), hashes = hashes_of(s), length = word(s + AT_LENGTH);
     if (place == EMPTY) return all_zero(s, SLOT);
-    if (hashes > HASHES || length == 0 || length > PAYLOAD || (s[0] & 3) || s[AT_ZERO]) return false;
+    if (hashes > HASHES || length == 0 || length > PAYLOAD || (s[0] & SPARE) || s[AT_ZERO]) return false;
     if (place == RESERVED)
-        return hashes == 0 && all_zero(s + AT_KEY, AT_LENGTH - AT_KEY) && all_zero(s + AT_HASHES, SLOT - AT_HASHES);
+        return s[0] == RESERVED << 6 && all_zero(s + AT_KEY, AT_LENGTH - AT_KEY) && all_zero(s + AT_HASHES, SLOT - AT_HASHES);
+    if (!is_count(s[0] & KEPT, s + AT_COUNT)) return false;
     size_t used = AT_HASHES + HASH * hashes, end = AT_PAYLOAD + length;
     return all_zero(s + used, AT_ZERO - used) && all_zero(s + end, SLOT - end);
 }
@@ -74,6 +79,11 @@ static bool well_table(uint8_t *table, uint8_t *end) {
 }
 
 /* ---- requests */
+static unsigned zero_bits(unsigned kind) { return kind == 2 || kind == 5 ? 0x3f : 0x7f; }
+
+/* The count's bit of a request, as a slot has it. */
+static unsigned kept_asked(const uint8_t *frame) { return frame[1] >> 5 & KEPT; }
+
 static unsigned length_status(unsigned kind, size_t n) {
     static const uint8_t sizes[10] = {0, 12, 0, 20, 20, 12, 10, 10, 0, 10};
     if (kind < 1 || kind > 9) return UNSUPPORTED;
@@ -82,24 +92,29 @@ static unsigned length_status(unsigned kind, size_t n) {
     return n == sizes[kind] ? SUCCESS : PARAMETER;
 }
 
-static unsigned field_status(unsigned kind, const uint8_t *body, size_t n) {
+static unsigned field_status(unsigned kind, unsigned kept, const uint8_t *body, size_t n) {
     if (kind == 2) {
         size_t hashes = body[28] >> 4, used = 29 + HASH * hashes;
+        if (!is_count(kept, body + HANDLE + KEY)) return PARAMETER;
         return hashes > HASHES || (body[28] & 15) || n <= used || n - used > PAYLOAD ? PARAMETER : SUCCESS;
     }
+    if (kind == 5) return is_count(kept, body + HANDLE) ? SUCCESS : PARAMETER;
     if (kind == 8) return body[2] > HASHES || n != 3 + HASH * (size_t)body[2] ? PARAMETER : SUCCESS;
     return SUCCESS;
 }
 
 static unsigned request_status(const uint8_t *frame, size_t n) {
     unsigned kind = frame[0] & 31, status;
-    if (frame[0] >> 5 != 1 || (frame[1] & 127)) return PARAMETER;
+    if (frame[0] >> 5 != 1 || (frame[1] & zero_bits(kind))) return PARAMETER;
     if ((status = length_status(kind, n - 4)) != SUCCESS) return status;
-    if (kind <= 7 && frame[1] == 0) return INTEGRITY;
-    return field_status(kind, frame + 4, n - 4);
+    if (kind <= 7 && frame[1] < 128) return INTEGRITY;
+    return field_status(kind, kept_asked(frame), frame + 4, n - 4);
 }
 
 /* ---- replies */
+/* The count's bit of a slot, as a reply has it. */
+static unsigned kept_told(const uint8_t *s) { return s[0] << 6 & 128; }
+
 static void reply_head(uint8_t *reply, unsigned kind, unsigned status, size_t body) {
     reply[0] = (uint8_t)(1 << 5 | kind);
     reply[1] = (uint8_t)status;
@@ -115,11 +130,13 @@ static size_t put_right(uint8_t *body, const uint8_t *s) {
     return 19 + hashes + length;
 }
 
-/* ---- what each kind does: it gives a status and, at success, sets the length of the body that it wrote */
+/* ---- what each kind does: it gives a status and, at success, sets the length of the body that it wrote, and the count's bit
+ * of the reply */
 struct call {
     uint8_t *table, *end, *reply;
     const uint8_t *body;
     size_t n, given;
+    unsigned kept, told;
 };
 
 static unsigned set_up(struct call *c) {
@@ -140,7 +157,7 @@ static unsigned install(struct call *c, uint8_t *s) {
     size_t length = c->n - 29 - HASH * hashes;
     if (place_of(s) != RESERVED) return UNEXPECTED;
     if (length > word(s + AT_LENGTH)) return NO_SPACE;
-    s[0] = (uint8_t)(ENABLED << 6 | hashes << 2);
+    s[0] = (uint8_t)(ENABLED << 6 | hashes << 2 | c->kept);
     memcpy(s + AT_KEY, c->body + HANDLE, KEY + 2);
     put_word(s + AT_LENGTH, (unsigned)length);
     memcpy(s + AT_HASHES, c->body + 29, HASH * hashes);
@@ -153,6 +170,7 @@ static unsigned lend(struct call *c, uint8_t *s, bool whole) {
     if (find(c->table, c->end, c->body + HANDLE) < c->end) return DUPLICATE;
     if (whole) {
         c->given = put_right(c->reply + 4, s);
+        c->told = kept_told(s);
     } else {
         memcpy(c->reply + 4, s + AT_KEY, KEY);
         c->given = KEY;
@@ -165,7 +183,7 @@ static unsigned lend(struct call *c, uint8_t *s, bool whole) {
 static unsigned enable(struct call *c, uint8_t *s) {
     if (place_of(s) == RESERVED) return UNEXPECTED;
     if (place_of(s) == DISABLED) {
-        s[0] = (uint8_t)(ENABLED << 6 | (s[0] & 63));
+        s[0] = (uint8_t)(ENABLED << 6 | hashes_of(s) << 2 | c->kept);
         memcpy(s + AT_COUNT, c->body + HANDLE, 2);
     }
     return SUCCESS;
@@ -183,6 +201,7 @@ static unsigned inform(struct call *c, const uint8_t *s) {
     memcpy(c->reply + 4, s + AT_COUNT, 2);
     memcpy(c->reply + 6, s + AT_PAYLOAD, length);
     c->given = 2 + length;
+    c->told = kept_told(s);
     return SUCCESS;
 }
 
@@ -226,9 +245,9 @@ uint16_t AGENT(uint8_t *table, size_t size, const uint8_t *frame, size_t n, uint
     if (size == 0 || size % SLOT != 0 || size > SLOTS * SLOT) return 102;
     if (!well_table(table, table + size)) return 103;
     if (n < 4 || n - 4 != word(frame + 2)) return 104;
-    struct call c = {table, table + size, reply, frame + 4, n - 4, 0};
+    struct call c = {table, table + size, reply, frame + 4, n - 4, 0, kept_asked(frame), 0};
     unsigned status = request_status(frame, n);
     if (status == SUCCESS) status = serve(&c, frame[0] & 31);
-    reply_head(reply, frame[0] & 31, status, status == SUCCESS ? c.given : 0);
+    reply_head(reply, frame[0] & 31, status | c.told, status == SUCCESS ? c.given : 0);
     return 0;
 }

@@ -28,9 +28,9 @@ pub fn call(table: &mut [u8], frame: &[u8], reply: &mut [u8]) -> u16 {
         return 104;
     };
     let kind = head[0] & 31;
-    let answer = requests::test(head, body).and_then(|()| rights::serve(slots, kind, body, reply));
+    let answer = requests::test(head, body).and_then(|()| rights::serve(slots, head, body, reply));
     let (status, length) = match answer {
-        Ok(length) => (0, length),
+        Ok(given) => (given.kept, given.length),
         Err(status) => (status as u8, 0),
     };
     let [high, low] = (length as u16).to_be_bytes();
@@ -38,8 +38,22 @@ pub fn call(table: &mut [u8], frame: &[u8], reply: &mut [u8]) -> u16 {
     0
 }
 
-/// The outcome of a request: the length of its reply's body, or a status.
-type Answer = Result<usize, Status>;
+/// What a success gives: the count's bit, in its place beside the status, and
+/// the length of the reply's body.
+struct Given {
+    kept: u8,
+    length: usize,
+}
+
+impl Given {
+    /// A body that has no count.
+    fn body(length: usize) -> Given {
+        Given { kept: 0, length }
+    }
+}
+
+/// The outcome of a request: what its reply gives, or a status.
+type Answer = Result<Given, Status>;
 
 /// The same call under C's calling convention.
 ///

@@ -20,10 +20,22 @@ pub fn split(frame: &[u8]) -> Option<(&[u8; 4], &[u8])> {
     (body.len() == usize::from(u16::from_be_bytes([head[2], head[3]]))).then_some((head, body))
 }
 
-/// The tests for all kinds, then the field tests of kinds 2 and 8.
+/// The bits of a request's second byte: the verdict, and whether a count is
+/// kept, which kinds 2 and 5 have. All others are zero bits.
+const VERDICT: u8 = 0x80;
+pub const KEPT: u8 = 0x40;
+
+fn zero_bits(kind: u8) -> u8 {
+    match kind {
+        2 | 5 => !(VERDICT | KEPT),
+        _ => !VERDICT,
+    }
+}
+
+/// The tests for all kinds, then the field tests of kinds 2, 5 and 8.
 pub fn test(head: &[u8; 4], body: &[u8]) -> Result<(), Status> {
     let kind = head[0] & 31;
-    if head[0] >> 5 != 1 || head[1] & 127 != 0 {
+    if head[0] >> 5 != 1 || head[1] & zero_bits(kind) != 0 {
         return Err(Status::Parameter);
     }
     let long_enough = match kind {
@@ -37,26 +49,29 @@ pub fn test(head: &[u8; 4], body: &[u8]) -> Result<(), Status> {
     if !long_enough {
         return Err(Status::Parameter);
     }
-    if kind <= 7 && head[1] == 0 {
+    if kind <= 7 && head[1] & VERDICT == 0 {
         return Err(Status::Integrity);
     }
-    if fields_hold(kind, body) {
+    if fields_hold(kind, head[1] & KEPT != 0, body) {
         Ok(())
     } else {
         Err(Status::Parameter)
     }
 }
 
-fn fields_hold(kind: u8, body: &[u8]) -> bool {
+/// The field tests. A count that is not kept must be 0.
+fn fields_hold(kind: u8, kept: bool, body: &[u8]) -> bool {
     match kind {
         2 => {
             let hashes = usize::from(body[28] >> 4);
             let used = 29 + HASH * hashes;
-            hashes <= HASHES
+            (kept || body[26..28] == [0, 0])
+                && hashes <= HASHES
                 && body[28] & 15 == 0
                 && body.len() > used
                 && body.len() - used <= PAYLOAD
         }
+        5 => kept || body[10..12] == [0, 0],
         8 => {
             let hashes = usize::from(body[2]);
             hashes <= HASHES && body.len() == 3 + HASH * hashes

@@ -1,19 +1,20 @@
 //! What each kind of request does.
 
-use crate::requests::Status;
-use crate::slots::{find, handle, hashes, length, place, Handle, Slot};
+use crate::requests::{self, Status};
+use crate::slots::{self, find, handle, hashes, length, place, Handle, Slot};
 use crate::slots::{
     AT_COUNT, AT_HASHES, AT_KEY, AT_LENGTH, AT_PAYLOAD, HANDLE, HASH, PAYLOAD, SLOT, SLOTS,
 };
 use crate::slots::{DISABLED, EMPTY, ENABLED, RESERVED};
-use crate::{Answer, REPLY};
+use crate::{Answer, Given, REPLY};
 
 /// The part of a reply buffer that a reply can take.
 type Reply = [u8; REPLY];
 
 /// Carries out a request that passed its tests, and writes its reply's body
 /// into the buffer, after the head.
-pub fn serve(slots: &mut [Slot], kind: u8, body: &[u8], reply: &mut Reply) -> Answer {
+pub fn serve(slots: &mut [Slot], head: &[u8; 4], body: &[u8], reply: &mut Reply) -> Answer {
+    let kind = head[0] & 31;
     match kind {
         1 => return set_up(slots, body),
         8 => return list(slots, body, reply),
@@ -21,9 +22,9 @@ pub fn serve(slots: &mut [Slot], kind: u8, body: &[u8], reply: &mut Reply) -> An
     }
     let at = find(slots, first(body)).ok_or(Status::NotFound)?;
     match kind {
-        2 => install(&mut slots[at], body),
+        2 => install(&mut slots[at], kept_asked(head), body),
         3 | 4 => lend(slots, at, second(body), kind == 3, reply),
-        5 => enable(&mut slots[at], body),
+        5 => enable(&mut slots[at], kept_asked(head), body),
         6 | 7 => clear(&mut slots[at], kind == 7),
         _ => inform(&slots[at], reply),
     }
@@ -35,6 +36,16 @@ fn first(body: &[u8]) -> &Handle {
 
 fn second(body: &[u8]) -> &Handle {
     body[HANDLE..].first_chunk().expect("a new handle")
+}
+
+/// The count's bit of a request, as a slot has it.
+fn kept_asked(head: &[u8; 4]) -> u8 {
+    (head[1] & requests::KEPT) >> 5
+}
+
+/// The count's bit of a slot, as a reply has it.
+fn kept_told(s: &Slot) -> u8 {
+    (s[0] & slots::KEPT) << 6
 }
 
 fn set_up(slots: &mut [Slot], body: &[u8]) -> Answer {
@@ -52,10 +63,10 @@ fn set_up(slots: &mut [Slot], body: &[u8]) -> Answer {
     s[0] = RESERVED << 6;
     s[1..AT_KEY].copy_from_slice(first(body));
     s[AT_LENGTH..AT_HASHES].copy_from_slice(&body[10..12]);
-    Ok(0)
+    Ok(Given::body(0))
 }
 
-fn install(s: &mut Slot, body: &[u8]) -> Answer {
+fn install(s: &mut Slot, kept: u8, body: &[u8]) -> Answer {
     let (fields, content) = body.split_at(29);
     let (hashes, payload) = content.split_at(HASH * usize::from(fields[28] >> 4));
     if place(s) != RESERVED {
@@ -64,12 +75,12 @@ fn install(s: &mut Slot, body: &[u8]) -> Answer {
     if payload.len() > length(s) {
         return Err(Status::NoSpace);
     }
-    s[0] = ENABLED << 6 | fields[28] >> 2;
+    s[0] = ENABLED << 6 | fields[28] >> 2 | kept;
     s[AT_KEY..AT_LENGTH].copy_from_slice(&fields[HANDLE..28]);
     s[AT_LENGTH..AT_HASHES].copy_from_slice(&(payload.len() as u16).to_be_bytes());
     s[AT_HASHES..][..hashes.len()].copy_from_slice(hashes);
     s[AT_PAYLOAD..][..payload.len()].copy_from_slice(payload);
-    Ok(0)
+    Ok(Given::body(0))
 }
 
 fn lend(slots: &mut [Slot], at: usize, new: &Handle, whole: bool, reply: &mut Reply) -> Answer {
@@ -90,30 +101,33 @@ fn lend(slots: &mut [Slot], at: usize, new: &Handle, whole: bool, reply: &mut Re
     Ok(given)
 }
 
-fn put_key(s: &Slot, reply: &mut Reply) -> usize {
+fn put_key(s: &Slot, reply: &mut Reply) -> Given {
     reply[4..20].copy_from_slice(&s[AT_KEY..AT_COUNT]);
-    16
+    Given::body(16)
 }
 
-fn put_right(s: &Slot, reply: &mut Reply) -> usize {
-    let (kept, payload) = (HASH * hashes(s), length(s));
+fn put_right(s: &Slot, reply: &mut Reply) -> Given {
+    let (used, payload) = (HASH * hashes(s), length(s));
     reply[4..22].copy_from_slice(&s[AT_KEY..AT_LENGTH]);
     reply[22] = (hashes(s) as u8) << 4;
-    reply[23..][..kept].copy_from_slice(&s[AT_HASHES..][..kept]);
-    reply[23 + kept..][..payload].copy_from_slice(&s[AT_PAYLOAD..][..payload]);
-    19 + kept + payload
+    reply[23..][..used].copy_from_slice(&s[AT_HASHES..][..used]);
+    reply[23 + used..][..payload].copy_from_slice(&s[AT_PAYLOAD..][..payload]);
+    Given {
+        kept: kept_told(s),
+        length: 19 + used + payload,
+    }
 }
 
-fn enable(s: &mut Slot, body: &[u8]) -> Answer {
+fn enable(s: &mut Slot, kept: u8, body: &[u8]) -> Answer {
     match place(s) {
         RESERVED => return Err(Status::Unexpected),
         DISABLED => {
-            s[0] = ENABLED << 6 | s[0] & 63;
+            s[0] = ENABLED << 6 | (hashes(s) as u8) << 2 | kept;
             s[AT_COUNT..AT_LENGTH].copy_from_slice(&body[10..12]);
         }
         _ => {}
     }
-    Ok(0)
+    Ok(Given::body(0))
 }
 
 fn clear(s: &mut Slot, reserved: bool) -> Answer {
@@ -121,7 +135,7 @@ fn clear(s: &mut Slot, reserved: bool) -> Answer {
         return Err(Status::Unexpected);
     }
     *s = [0; SLOT];
-    Ok(0)
+    Ok(Given::body(0))
 }
 
 fn inform(s: &Slot, reply: &mut Reply) -> Answer {
@@ -131,7 +145,10 @@ fn inform(s: &Slot, reply: &mut Reply) -> Answer {
     let payload = length(s);
     reply[4..6].copy_from_slice(&s[AT_COUNT..AT_LENGTH]);
     reply[6..][..payload].copy_from_slice(&s[AT_PAYLOAD..][..payload]);
-    Ok(2 + payload)
+    Ok(Given {
+        kept: kept_told(s),
+        length: 2 + payload,
+    })
 }
 
 fn list(slots: &[Slot], body: &[u8], reply: &mut Reply) -> Answer {
@@ -146,10 +163,10 @@ fn list(slots: &[Slot], body: &[u8], reply: &mut Reply) -> Answer {
         found += 1;
     }
     reply[4] = if found > most { 128 } else { 0 };
-    Ok(1 + HANDLE * found.min(most))
+    Ok(Given::body(1 + HANDLE * found.min(most)))
 }
 
 fn is_listed(s: &Slot, asked: &[[u8; HASH]]) -> bool {
-    let (kept, _) = s[AT_HASHES..][..HASH * hashes(s)].as_chunks::<HASH>();
-    place(s) == ENABLED && (asked.is_empty() || kept.iter().any(|hash| asked.contains(hash)))
+    let (used, _) = s[AT_HASHES..][..HASH * hashes(s)].as_chunks::<HASH>();
+    place(s) == ENABLED && (asked.is_empty() || used.iter().any(|hash| asked.contains(hash)))
 }

@@ -24,6 +24,11 @@ pub const RESERVED: u8 = 1;
 pub const ENABLED: u8 = 2;
 pub const DISABLED: u8 = 3;
 
+/// The low bits of a slot's first byte: whether a count is kept, and a bit that
+/// is always 0.
+pub const KEPT: u8 = 0x02;
+const SPARE: u8 = 0x01;
+
 /// How many bytes are read between two tests.
 const BLOCK: usize = 512;
 
@@ -75,14 +80,18 @@ fn well_slot(s: &Slot) -> bool {
         EMPTY => all_zero(s),
         _ if hashes > HASHES
             || !(1..=PAYLOAD).contains(&length)
-            || s[0] & 3 != 0
+            || s[0] & SPARE != 0
             || s[AT_ZERO] != 0 =>
         {
             false
         }
-        RESERVED => hashes == 0 && all_zero(&s[AT_KEY..AT_LENGTH]) && all_zero(&s[AT_HASHES..]),
+        RESERVED => {
+            s[0] == RESERVED << 6 && all_zero(&s[AT_KEY..AT_LENGTH]) && all_zero(&s[AT_HASHES..])
+        }
         _ => {
-            all_zero(&s[AT_HASHES + HASH * hashes..AT_ZERO]) && all_zero(&s[AT_PAYLOAD + length..])
+            (s[0] & KEPT != 0 || s[AT_COUNT..AT_LENGTH] == [0, 0])
+                && all_zero(&s[AT_HASHES + HASH * hashes..AT_ZERO])
+                && all_zero(&s[AT_PAYLOAD + length..])
         }
     }
 }
