@@ -6,11 +6,12 @@
  *   command  arguments                                           answer
  *   t        string table                                        none: the table that is lent from here on
  *   c        strings frame, reply                                number, strings reply and table, as cavernlull_call left them
- *   w        numbers kind, room, count, limit; strings handle,   number, string out, as cavernlull_write_request left it
- *            new handle, key, hashes, payload, out
- *   r        strings frame, key, fields (20 bytes)               number, strings key and fields, as cavernlull_read_reply
+ *   w        numbers kind, room, count, kept, limit; strings     number, string out, as cavernlull_write_request left it
+ *            handle, new handle, key, hashes, payload, out
+ *   r        strings frame, key, fields (22 bytes)               number, strings key and fields, as cavernlull_read_reply
  *                                                                left them
  *   l        string out (406 bytes)                              number, string out, as cavernlull_list left it
+ *   u        none                                                number, string table, as cavernlull_turn left it
  *
  * Every string is lent so that it ends where memory ends: an access to the byte after it is a fault.
  * It ends with status 0 at the end of the input, and with 2 where the input is not a command or is too long.
@@ -156,14 +157,16 @@ static void call(void) {
 
 static void write_request(void) {
     uint8_t kind = (uint8_t)take_number();
-    uint16_t room = (uint16_t)take_number(), count = (uint16_t)take_number(), limit = (uint16_t)take_number();
+    uint16_t room = (uint16_t)take_number(), count = (uint16_t)take_number();
+    uint8_t kept = (uint8_t)take_number();
+    uint16_t limit = (uint16_t)take_number();
     struct lent handle = take_array(&areas[0], CAVERNLULL_HANDLE_BYTES);
     struct lent new_handle = take_array(&areas[1], CAVERNLULL_HANDLE_BYTES);
     struct lent key = take_array(&areas[2], CAVERNLULL_KEY_BYTES);
     struct lent hashes = take_string(&areas[3]);
     struct lent payload = take_string(&areas[4]);
     struct lent out = take_string(&areas[5]);
-    give_number(cavernlull_write_request(kind, handle.at, new_handle.at, key.at, room, count, limit, hashes.at,
+    give_number(cavernlull_write_request(kind, handle.at, new_handle.at, key.at, room, count, kept, limit, hashes.at,
                                          hashes.length, payload.at, payload.length, out.at, out.length));
     give_string(out);
 }
@@ -183,6 +186,11 @@ static void list(void) {
     give_string(out);
 }
 
+static void turn(void) {
+    give_number(cavernlull_turn(table.at, table.length));
+    give_string(table);
+}
+
 static _Noreturn __attribute__((used)) void run(void) {
     wall_off(&table_area);
     for (size_t i = 0; i < sizeof areas / sizeof areas[0]; i++) wall_off(&areas[i]);
@@ -193,6 +201,7 @@ static _Noreturn __attribute__((used)) void run(void) {
         case 'w': write_request(); break;
         case 'r': read_reply(); break;
         case 'l': list(); break;
+        case 'u': turn(); break;
         default: leave(2);
         }
     }

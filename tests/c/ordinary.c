@@ -1,5 +1,6 @@
 /* An ordinary C program that links libcavernlull.a, as a front end or a device does: one course on its way through a card of
- * two slots. It is set up, installed, listed, lent, refused a second time and under a handle in use, returned and removed.
+ * two slots. It is set up, installed, listed, lent, refused a second time and under a handle in use, returned and removed. Then
+ * it has a count of 1, which is used up and stays so; and it is on an old card, whose table is turned.
  *
  * Each step is checked against what the header promises: the number, every byte of the reply buffer, every byte of the table,
  * what the reply reader reads in the reply, and the listing. The expected bytes are written here by hand. The program prints
@@ -42,15 +43,25 @@ static int filled(const uint8_t *bytes, size_t length, uint8_t byte) {
 
 static size_t length_of(const uint8_t *one) { return 4 + (size_t)(one[2] << 8 | one[3]); }
 
+/* ---- a count: one that is kept, or none */
+struct count {
+    uint16_t number;
+    uint8_t is_kept;
+};
+
+static const struct count no_count;
+
+static struct count kept(uint16_t number) { return (struct count){number, 1}; }
+
 /* ---- a slot of the expected table (PROFILE 2.2) */
-static void put_slot(int index, enum place place, const uint8_t *handle, uint16_t count, uint16_t length) {
+static void put_slot(int index, enum place place, const uint8_t *handle, struct count count, uint16_t length) {
     uint8_t *slot = expected + index * CAVERNLULL_SLOT_BYTES;
     int right = place == ENABLED || place == DISABLED;
     memset(slot, 0, CAVERNLULL_SLOT_BYTES);
-    slot[0] = (uint8_t)(place << 6 | (right ? 2 << 2 : 0));
+    slot[0] = (uint8_t)(place << 6 | (right ? 2 << 2 : 0) | (count.is_kept ? CAVERNLULL_KEPT_IN_SLOT : 0));
     memcpy(slot + 1, handle, sizeof course);
-    slot[27] = (uint8_t)(count >> 8);
-    slot[28] = (uint8_t)count;
+    slot[27] = (uint8_t)(count.number >> 8);
+    slot[28] = (uint8_t)count.number;
     slot[29] = (uint8_t)(length >> 8);
     slot[30] = (uint8_t)length;
     if (!right) return;
@@ -59,33 +70,43 @@ static void put_slot(int index, enum place place, const uint8_t *handle, uint16_
     memcpy(slot + PAYLOAD_AT, payload, sizeof payload);
 }
 
-static void put_right(enum place place, const uint8_t *handle, uint16_t count) {
+static void put_reserved(int index, const uint8_t *handle, uint16_t length) {
+    put_slot(index, RESERVED, handle, no_count, length);
+}
+
+static void put_right(enum place place, const uint8_t *handle, struct count count) {
     put_slot(0, place, handle, count, sizeof payload);
 }
 
 /* ---- requests: each writes a frame */
-static void write_plain(uint8_t kind, const uint8_t *handle, const uint8_t *new_handle, uint16_t room, uint16_t count) {
-    CHECK(cavernlull_write_request(kind, handle, new_handle, none, room, count, 0, none, 0, none, 0, frame,
-                                   sizeof frame) == CAVERNLULL_DONE);
+static void write_plain(uint8_t kind, const uint8_t *handle, const uint8_t *new_handle, uint16_t room) {
+    CHECK(cavernlull_write_request(kind, handle, new_handle, none, room, 0, 0, 0, none, 0, none, 0, frame, sizeof frame) ==
+          CAVERNLULL_DONE);
 }
 
-static void write_installation(const uint8_t *handle, uint16_t count) {
-    CHECK(cavernlull_write_request(CAVERNLULL_RIGHTS_INSTALLATION, handle, none, key, 0, count, 0, hashes, sizeof hashes,
-                                   payload, sizeof payload, frame, sizeof frame) == CAVERNLULL_DONE);
+static void write_installation(const uint8_t *handle, struct count count) {
+    CHECK(cavernlull_write_request(CAVERNLULL_RIGHTS_INSTALLATION, handle, none, key, 0, count.number, count.is_kept, 0, hashes,
+                                   sizeof hashes, payload, sizeof payload, frame, sizeof frame) == CAVERNLULL_DONE);
+}
+
+static void write_return(const uint8_t *handle, struct count count) {
+    CHECK(cavernlull_write_request(CAVERNLULL_RIGHTS_ENABLEMENT, handle, none, none, 0, count.number, count.is_kept, 0, none, 0,
+                                   none, 0, frame, sizeof frame) == CAVERNLULL_DONE);
 }
 
 static void write_list(uint16_t limit) {
-    CHECK(cavernlull_write_request(CAVERNLULL_HANDLE_LIST_QUERY, none, none, none, 0, 0, limit, none, 0, none, 0, frame,
+    CHECK(cavernlull_write_request(CAVERNLULL_HANDLE_LIST_QUERY, none, none, none, 0, 0, 0, limit, none, 0, none, 0, frame,
                                    sizeof frame) == CAVERNLULL_DONE);
 }
 
-/* ---- the call: number, status, body, the rest of the buffer, the table, and what the reply reader reads in the reply */
-static void call(uint8_t status, const uint8_t *body, size_t body_length) {
+/* ---- the call: number, status and the bit of a kept count, body, the rest of the buffer, the table, and what the reply reader
+ * reads in the reply */
+static void call_telling(uint8_t kept_bit, uint8_t status, const uint8_t *body, size_t body_length) {
     uint8_t sent_key[CAVERNLULL_KEY_BYTES];
     memset(reply, FILLER, sizeof reply);
     CHECK(cavernlull_call(table, sizeof table, frame, length_of(frame), reply, sizeof reply) == CAVERNLULL_DONE);
     CHECK(reply[0] == frame[0]);
-    CHECK(reply[1] == status);
+    CHECK(reply[1] == (kept_bit | status));
     CHECK(length_of(reply) == 4 + body_length);
     CHECK(memcmp(reply + 4, body, body_length) == 0);
     CHECK(filled(reply + 4 + body_length, sizeof reply - 4 - body_length, FILLER));
@@ -93,47 +114,55 @@ static void call(uint8_t status, const uint8_t *body, size_t body_length) {
     CHECK(cavernlull_read_reply(reply, length_of(reply), sent_key, fields) == CAVERNLULL_DONE);
     CHECK(fields[CAVERNLULL_REPLY_KIND] == (frame[0] & 31));
     CHECK(fields[CAVERNLULL_REPLY_STATUS] == status);
+    CHECK(fields[CAVERNLULL_REPLY_KEPT] == (kept_bit != 0));
     int has_key = status == CAVERNLULL_SUCCESS && (reply[0] == 0x23 || reply[0] == 0x24);
     CHECK(memcmp(sent_key, has_key ? key : none, sizeof sent_key) == 0);
 }
+
+static void call(uint8_t status, const uint8_t *body, size_t body_length) { call_telling(0, status, body, body_length); }
 
 static void done(void) { call(CAVERNLULL_SUCCESS, none, 0); }
 
 static void refused(uint8_t status) { call(status, none, 0); }
 
-static void listed(const char *lines) {
-    static const char header[] = "slot place hashes count length\n";
+static void listed_after(const char *header, const char *lines) {
     uint8_t out[CAVERNLULL_LISTING_ROOM];
     memset(out, FILLER, sizeof out);
-    size_t length = cavernlull_list(table, sizeof table, out), head = sizeof header - 1;
+    size_t length = cavernlull_list(table, sizeof table, out), head = strlen(header);
     CHECK(length == head + strlen(lines));
     CHECK(memcmp(out, header, head) == 0);
     CHECK(memcmp(out + head, lines, strlen(lines)) == 0);
     CHECK(filled(out + length, sizeof out - length, FILLER));
 }
 
+static void listed(const char *lines) { listed_after("slot place hashes count length\n", lines); }
+
 /* ---- the course */
 static void installs(void) {
-    write_plain(CAVERNLULL_INSTALLATION_SETUP, course, none, 300, 0);
+    write_plain(CAVERNLULL_INSTALLATION_SETUP, course, none, 300);
     static const uint8_t written[] = {0x21, 0x80, 0, 12, 1, 1, 1, 1, 1, 1, 1, 1, 1, 1, 300 >> 8, 300 & 255};
     CHECK(memcmp(frame, written, sizeof written) == 0);
     frame[1] = 0; /* the front end: the MAC did not hold */
     refused(CAVERNLULL_FIELD_INTEGRITY_VERIFICATION_FAILED);
     frame[1] = 0x80;
-    put_slot(0, RESERVED, course, 0, 300);
+    put_reserved(0, course, 300);
     done();
     refused(CAVERNLULL_DUPLICATE_HANDLE);
     listed("0 reserved 0 0 300\n1 empty 0 0 0\n");
-    write_installation(other, 9);
+    write_installation(other, kept(9));
     refused(CAVERNLULL_HANDLE_NOT_FOUND);
-    write_installation(course, 9);
-    put_right(ENABLED, course, 9);
+    write_installation(course, kept(9));
+    CHECK(frame[1] == (0x80 | CAVERNLULL_KEPT_IN_REQUEST));
+    frame[1] = 0x80; /* a count without its bit */
+    refused(CAVERNLULL_PARAMETER_FAILED);
+    frame[1] |= CAVERNLULL_KEPT_IN_REQUEST;
+    put_right(ENABLED, course, kept(9));
     done();
     refused(CAVERNLULL_UNEXPECTED_REQUEST);
-    write_plain(CAVERNLULL_INSTALLATION_SETUP, other, none, 1, 0);
-    put_slot(1, RESERVED, other, 0, 1);
+    write_plain(CAVERNLULL_INSTALLATION_SETUP, other, none, 1);
+    put_reserved(1, other, 1);
     done();
-    write_plain(CAVERNLULL_INSTALLATION_SETUP, borrower, none, 1, 0);
+    write_plain(CAVERNLULL_INSTALLATION_SETUP, borrower, none, 1);
     refused(CAVERNLULL_NOT_ENOUGH_SPACE);
     listed("0 enabled 2 9 7\n1 reserved 0 0 1\n");
 }
@@ -152,56 +181,112 @@ static void lists(const uint8_t *handle) {
 }
 
 static void lends(void) {
-    write_plain(CAVERNLULL_REK_QUERY, course, other, 0, 0);
+    write_plain(CAVERNLULL_REK_QUERY, course, other, 0);
     refused(CAVERNLULL_DUPLICATE_HANDLE);
-    write_plain(CAVERNLULL_REK_QUERY, course, course, 0, 0);
+    write_plain(CAVERNLULL_REK_QUERY, course, course, 0);
     refused(CAVERNLULL_DUPLICATE_HANDLE);
-    write_plain(CAVERNLULL_REK_QUERY, course, borrower, 0, 0);
-    put_right(DISABLED, borrower, 9);
+    write_plain(CAVERNLULL_REK_QUERY, course, borrower, 0);
+    put_right(DISABLED, borrower, kept(9));
     call(CAVERNLULL_SUCCESS, key, sizeof key);
     refused(CAVERNLULL_HANDLE_NOT_FOUND);
-    write_plain(CAVERNLULL_REK_QUERY, borrower, course, 0, 0);
+    write_plain(CAVERNLULL_REK_QUERY, borrower, course, 0);
     refused(CAVERNLULL_UNEXPECTED_REQUEST);
     write_list(0);
     call(CAVERNLULL_SUCCESS, none, 1);
     listed("0 disabled 2 9 7\n1 reserved 0 0 1\n");
 }
 
-/* A return whose reply was lost is sent again, with another count, and changes nothing. */
+/* A return whose reply was lost is sent again, with another count or with none, and changes nothing. */
 static void takes_back(void) {
-    write_plain(CAVERNLULL_RIGHTS_ENABLEMENT, borrower, none, 0, 8);
-    put_right(ENABLED, borrower, 8);
+    write_return(borrower, kept(8));
+    put_right(ENABLED, borrower, kept(8));
     done();
-    write_plain(CAVERNLULL_RIGHTS_ENABLEMENT, borrower, none, 0, 7);
+    write_return(borrower, kept(7));
+    done();
+    write_return(borrower, no_count);
     done();
     uint8_t body[2 + sizeof payload] = {0, 8};
     memcpy(body + 2, payload, sizeof payload);
-    write_plain(CAVERNLULL_RIGHTS_INFORMATION_QUERY, borrower, none, 0, 0);
-    call(CAVERNLULL_SUCCESS, body, sizeof body);
+    write_plain(CAVERNLULL_RIGHTS_INFORMATION_QUERY, borrower, none, 0);
+    call_telling(CAVERNLULL_KEPT_IN_REPLY, CAVERNLULL_SUCCESS, body, sizeof body);
     CHECK(fields[CAVERNLULL_REPLY_COUNT] == 8 && fields[CAVERNLULL_REPLY_PAYLOAD_LENGTH] == sizeof payload);
     CHECK(memcmp(reply + fields[CAVERNLULL_REPLY_PAYLOAD_AT], payload, sizeof payload) == 0);
 }
 
-static void removes(void) {
+/* Lends the course, which is under `borrower`, out whole, under `course`. It goes out with this count. */
+static void retrieves(struct count count) {
     uint8_t body[16 + 2 + 1 + sizeof hashes + sizeof payload];
     memcpy(body, key, sizeof key);
-    memcpy(body + 16, (uint8_t[]){0, 8, 2 << 4}, 3);
+    memcpy(body + 16, (uint8_t[]){(uint8_t)(count.number >> 8), (uint8_t)count.number, 2 << 4}, 3);
     memcpy(body + 19, hashes, sizeof hashes);
     memcpy(body + 19 + sizeof hashes, payload, sizeof payload);
-    write_plain(CAVERNLULL_RIGHTS_RETRIEVAL, borrower, course, 0, 0);
-    put_right(DISABLED, course, 8);
-    call(CAVERNLULL_SUCCESS, body, sizeof body);
-    CHECK(fields[CAVERNLULL_REPLY_HASHES] == 2);
+    write_plain(CAVERNLULL_RIGHTS_RETRIEVAL, borrower, course, 0);
+    put_right(DISABLED, course, count);
+    call_telling(count.is_kept ? CAVERNLULL_KEPT_IN_REPLY : 0, CAVERNLULL_SUCCESS, body, sizeof body);
+    CHECK(fields[CAVERNLULL_REPLY_COUNT] == count.number && fields[CAVERNLULL_REPLY_HASHES] == 2);
     CHECK(memcmp(reply + fields[CAVERNLULL_REPLY_HASHES_AT], hashes, sizeof hashes) == 0);
     CHECK(memcmp(reply + fields[CAVERNLULL_REPLY_PAYLOAD_AT], payload, sizeof payload) == 0);
-    write_plain(CAVERNLULL_RIGHTS_REMOVAL, course, none, 0, 0);
+}
+
+static void removes(void) {
+    retrieves(kept(8));
+    write_plain(CAVERNLULL_RIGHTS_REMOVAL, course, none, 0);
     memset(expected, 0, CAVERNLULL_SLOT_BYTES);
     done();
     refused(CAVERNLULL_HANDLE_NOT_FOUND);
-    write_plain(CAVERNLULL_HANDLE_REMOVAL, other, none, 0, 0);
+    write_plain(CAVERNLULL_HANDLE_REMOVAL, other, none, 0);
     memset(expected, 0, sizeof expected);
     done();
     listed("0 empty 0 0 0\n1 empty 0 0 0\n");
+}
+
+/* ---- counts: the course is installed with `first`, lent, returned with `then` and lent again: `then` is what goes out */
+static void counts(struct count first, struct count then) {
+    write_plain(CAVERNLULL_INSTALLATION_SETUP, course, none, 300);
+    put_reserved(0, course, 300);
+    done();
+    write_installation(course, first);
+    put_right(ENABLED, course, first);
+    done();
+    write_plain(CAVERNLULL_REK_QUERY, course, borrower, 0);
+    put_right(DISABLED, borrower, first);
+    call(CAVERNLULL_SUCCESS, key, sizeof key);
+    write_return(borrower, then);
+    put_right(ENABLED, borrower, then);
+    done();
+    retrieves(then);
+    write_plain(CAVERNLULL_RIGHTS_REMOVAL, course, none, 0);
+    memset(expected, 0, sizeof expected);
+    done();
+}
+
+/* ---- an old table, in which no count has a bit */
+/* The turning gives this number, and leaves the table as it was. */
+static void turning_leaves(uint16_t number, size_t table_length) {
+    CHECK(cavernlull_turn(table, table_length) == number);
+    CHECK(memcmp(table, expected, sizeof table) == 0);
+}
+
+static void turns(void) {
+    put_right(ENABLED, course, (struct count){9, 0});
+    put_reserved(1, other, 1);
+    memcpy(table, expected, sizeof table);
+    listed_after("refused 103\n", "");
+    turning_leaves(CAVERNLULL_TABLE_LENGTH, TABLE_BYTES - 1);
+    turning_leaves(CAVERNLULL_TABLE_LENGTH, 0);
+    table[TABLE_BYTES - 1] = expected[TABLE_BYTES - 1] = 1; /* a reserved slot with a byte set */
+    turning_leaves(CAVERNLULL_TABLE_NOT_WELL_FORMED, TABLE_BYTES);
+    table[TABLE_BYTES - 1] = expected[TABLE_BYTES - 1] = 0;
+    CHECK(cavernlull_turn(table, sizeof table) == CAVERNLULL_DONE);
+    put_right(ENABLED, course, kept(9));
+    CHECK(memcmp(table, expected, sizeof table) == 0);
+    turning_leaves(CAVERNLULL_TABLE_NOT_WELL_FORMED, TABLE_BYTES); /* it is turned already */
+    listed("0 enabled 2 9 7\n1 reserved 0 0 1\n");
+    put_right(ENABLED, course, no_count);
+    memcpy(table, expected, sizeof table);
+    turning_leaves(CAVERNLULL_DONE, TABLE_BYTES); /* there is no count */
+    memset(table, 0, sizeof table);
+    memset(expected, 0, sizeof expected);
 }
 
 /* ---- a refusal leaves all lent memory as it was */
@@ -212,8 +297,8 @@ static void call_refused(uint16_t number, size_t table_length, size_t frame_leng
     CHECK(memcmp(table, expected, sizeof table) == 0);
 }
 
-static void refusals(void) {
-    write_plain(CAVERNLULL_INSTALLATION_SETUP, course, none, 5, 0);
+static void call_refusals(void) {
+    write_plain(CAVERNLULL_INSTALLATION_SETUP, course, none, 5);
     call_refused(CAVERNLULL_REPLY_BUFFER_SHORT, 1, 3, CAVERNLULL_REPLY_ROOM - 1);
     call_refused(CAVERNLULL_TABLE_LENGTH, 0, 3, CAVERNLULL_REPLY_ROOM);
     call_refused(CAVERNLULL_TABLE_LENGTH, TABLE_BYTES - 1, 16, CAVERNLULL_REPLY_ROOM);
@@ -222,20 +307,39 @@ static void refusals(void) {
     table[TABLE_BYTES - 1] = expected[TABLE_BYTES - 1] = 1; /* an empty slot with a byte set */
     call_refused(CAVERNLULL_TABLE_NOT_WELL_FORMED, TABLE_BYTES, 3, CAVERNLULL_REPLY_ROOM);
     table[TABLE_BYTES - 1] = expected[TABLE_BYTES - 1] = 0;
+}
+
+/* A request of a kind with a handle, a count, its bit and a room, and with nothing else, into a buffer of 13 bytes. */
+static uint16_t write_short(uint8_t kind, uint16_t count, uint8_t is_kept, uint16_t room) {
+    return cavernlull_write_request(kind, course, none, none, room, count, is_kept, 0, none, 0, none, 0, frame, 13);
+}
+
+static void writer_refusals(void) {
     memset(frame, FILLER, sizeof frame);
-    CHECK(cavernlull_write_request(CAVERNLULL_RIGHTS_REMOVAL, course, none, none, 0, 0, 0, none, 0, none, 0, frame, 13) ==
-          CAVERNLULL_WRITER_BUFFER_SHORT);
-    CHECK(cavernlull_write_request(CAVERNLULL_RIGHTS_REMOVAL, course, none, none, 1, 0, 0, none, 0, none, 0, frame, 13) ==
-          CAVERNLULL_WRITER_FIELDS);
-    CHECK(cavernlull_write_request(10, none, none, none, 0, 0, 0, none, 0, none, 0, frame, 13) == CAVERNLULL_WRITER_FIELDS);
+    CHECK(write_short(CAVERNLULL_RIGHTS_REMOVAL, 0, 0, 0) == CAVERNLULL_WRITER_BUFFER_SHORT);
+    CHECK(write_short(CAVERNLULL_RIGHTS_REMOVAL, 0, 0, 1) == CAVERNLULL_WRITER_FIELDS);
+    CHECK(write_short(CAVERNLULL_RIGHTS_REMOVAL, 0, 1, 0) == CAVERNLULL_WRITER_FIELDS);
+    CHECK(write_short(10, 0, 0, 0) == CAVERNLULL_WRITER_FIELDS);
+    CHECK(write_short(CAVERNLULL_RIGHTS_ENABLEMENT, 0, 0, 0) == CAVERNLULL_WRITER_BUFFER_SHORT);
+    CHECK(write_short(CAVERNLULL_RIGHTS_ENABLEMENT, 0, 1, 0) == CAVERNLULL_WRITER_BUFFER_SHORT);
+    CHECK(write_short(CAVERNLULL_RIGHTS_ENABLEMENT, 256, 1, 0) == CAVERNLULL_WRITER_BUFFER_SHORT);
+    CHECK(write_short(CAVERNLULL_RIGHTS_ENABLEMENT, 256, 0, 0) == CAVERNLULL_WRITER_FIELDS);
+    CHECK(write_short(CAVERNLULL_RIGHTS_ENABLEMENT, 0, 2, 0) == CAVERNLULL_WRITER_FIELDS);
     CHECK(filled(frame, sizeof frame, FILLER));
-    uint8_t kept[CAVERNLULL_KEY_BYTES];
-    memset(kept, FILLER, sizeof kept);
+}
+
+static void reader_refusals(void) {
+    uint8_t same[CAVERNLULL_KEY_BYTES];
+    memset(same, FILLER, sizeof same);
     memset(fields, FILLER, sizeof fields);
-    for (uint8_t kind = 0; kind < 32; kind++) /* 8 is no status */
-        CHECK(cavernlull_read_reply((const uint8_t[]){0x20 | kind, 8, 0, 0}, 4, kept, fields) == CAVERNLULL_NO_REPLY);
-    CHECK(cavernlull_read_reply((const uint8_t[]){0x21, 9, 0, 0}, 4, kept, fields) == CAVERNLULL_NO_REPLY);
-    CHECK(filled(kept, sizeof kept, FILLER) && fields[0] == 0xA5A5 && fields[CAVERNLULL_REPLY_NUMBERS - 1] == 0xA5A5);
+    for (uint8_t kind = 0; kind < 32; kind++) { /* 8 is no status, and no refusal has the bit of a count */
+        CHECK(cavernlull_read_reply((const uint8_t[]){0x20 | kind, 8, 0, 0}, 4, same, fields) == CAVERNLULL_NO_REPLY);
+        CHECK(cavernlull_read_reply((const uint8_t[]){0x20 | kind, 0x84, 0, 0}, 4, same, fields) == CAVERNLULL_NO_REPLY);
+    }
+    CHECK(cavernlull_read_reply((const uint8_t[]){0x21, 9, 0, 0}, 4, same, fields) == CAVERNLULL_NO_REPLY);
+    CHECK(cavernlull_read_reply((const uint8_t[]){0x25, 0x80, 0, 0}, 4, same, fields) == CAVERNLULL_NO_REPLY);
+    CHECK(cavernlull_read_reply((const uint8_t[]){0x29, 0, 0, 3, 0, 1, 0}, 7, same, fields) == CAVERNLULL_NO_REPLY);
+    CHECK(filled(same, sizeof same, FILLER) && fields[0] == 0xA5A5 && fields[CAVERNLULL_REPLY_NUMBERS - 1] == 0xA5A5);
 }
 
 int main(void) {
@@ -248,7 +352,14 @@ int main(void) {
     takes_back();
     lists(borrower);
     removes();
-    refusals();
+    counts(kept(1), kept(0)); /* used up, and not free */
+    counts(no_count, no_count);
+    counts(kept(0xFFFF), no_count);
+    counts(no_count, kept(256));
+    turns();
+    call_refusals();
+    writer_refusals();
+    reader_refusals();
     printf("ordinary: %d checks hold\n", checks);
     return 0;
 }
