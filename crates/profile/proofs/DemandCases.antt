@@ -10,14 +10,14 @@ use Rattle.profile.specs.Table.{unpack, image, pack, wellRest, wellSlot,
 use Rattle.profile.specs.Slot.{keptBit, countNumber, reserved, enabled, disabled, Slot, empty, taken}
 use Rattle.profile.specs.Frame.{frame}
 use Rattle.profile.specs.Request.{Request, rek, retrieve, readRequest, numberOf}
-use Rattle.profile.specs.Agent.{act, replyFrame, agent}
+use Rattle.profile.specs.Agent.{firstEmptyFrom, act, replyFrame, agent}
 use Rattle.profile.specs.History.{Exchange}
 use Rattle.profile.specs.CaseBytes.{H1, H2, H3, H4}
 use Rattle.profile.specs.HistoryCases.{plain}
 use Rattle.profile.specs.Demand3.{Lends, by-rek, by-retrieval}
 use Rattle.profile.specs.DemandCases
 use Rattle.profile.proofs.Logic.{not-equal, not-over}
-use Rattle.profile.proofs.Laws.{not-there}
+use Rattle.profile.proofs.FirstEmpty.{not-there}
 
 -- ---- numbers that tell values apart
 slotNumber : Slot → ℕ
@@ -46,7 +46,7 @@ lends-small by-retrieval = omega arith
 lends-small by-rek = omega arith
 
 pub demands-hold : DemandCases.Hold
-unfolding slotNumber firstStatus firstKind agent wholeSlots zeros wellTable slotBytes wellRest wellSlot slotsOf unpack readRequest over replyFrame frame act tableOf pack image
+unfolding slotNumber firstStatus firstKind agent wholeSlots zeros wellTable slotBytes wellRest wellSlot slotsOf unpack readRequest over replyFrame frame firstEmptyFrom act tableOf pack image
 demands-hold =
     record {
       missing = λ r. not-equal 0 2 (λ t. t) (ap slotNumber (in-one (taken H1 (enabled plain)) empty (r .used H1 plain .1 (0, refl))));

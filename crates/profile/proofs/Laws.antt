@@ -11,34 +11,19 @@ use lib.ListN.{length, getElem?, set}
 use Rattle.profile.specs.Bytes.{Bytes, if_then_else_, same, over}
 use Rattle.profile.specs.Sizes.{replyRoom}
 use Rattle.profile.specs.Slot.{Right, Entry, reserved, enabled, disabled, Slot, empty, taken, inUse, distinct}
-use Rattle.profile.specs.Table.{slotsOf, wholeSlots, wellTable}
+use Rattle.profile.specs.Table.{slotCount, slotsOf, wholeSlots, wellTable}
 use Rattle.profile.specs.Frame.{kindNumber, frame}
 use Rattle.profile.specs.Request.{setup, Read, asks, refused, noFrame, readRequest}
-use Rattle.profile.specs.Agent.{Given, Found, absent, one, next, find, Answer, deny, done, act, lowestEmpty, statusByte, replyFrame, Call, refuse, replied, obey, onBytes, agent}
-use Rattle.profile.specs.Laws.{Apart, Refuses, FoundIs, SetsLowest, is-empty}
+use Rattle.profile.specs.Agent.{Given, Found, absent, one, next, find, Answer, deny, done, act, firstEmptyFrom, statusByte, replyFrame, Call, refuse, replied, obey, onBytes, agent}
+use Rattle.profile.specs.Laws.{Apart, Refuses, FoundIs, Full, SetsFirst}
 use Rattle.profile.proofs.Logic.{both, and-parts, not-true, eqb-true, same-refl, split}
 use Rattle.profile.proofs.Frames.{coded}
-use Rattle.profile.proofs.Numbers.{agent-103, by-agent}
+use Rattle.profile.proofs.FirstEmpty.{not-there, empty-not-taken, first-empty, first-only, none-empty}
+use Rattle.profile.proofs.Numbers.{agent-103, agent-105, by-agent}
 use Rattle.profile.proofs.WellFormed.{table-distinct}
 use Rattle.profile.proofs.Steps.{acts}
 
 -- ---- items of a list
-pub not-there : {A : Type 0} {x : A} → Path (Option A) none (some x) → ⊥
-not-there {A} e = subst Some (sym e) tt
-  where
-    Some : Option A → Type 0
-    Some none = ⊥
-    Some (some x) = Unit {0}
-
-IsTaken : Option Slot → Type 0
-IsTaken none = ⊥
-IsTaken (some empty) = ⊥
-IsTaken (some (taken h e)) = Unit {0}
-
-empty-not-taken : {h : Bytes} {e : Entry} → Path (Option Slot) (some empty) (some (taken h e)) → ⊥
-unfolding IsTaken
-empty-not-taken p = subst IsTaken (sym p) tt
-
 handleIn : Bytes → Slot → Bytes
 handleIn d empty = d
 handleIn d (taken h e) = h
@@ -135,8 +120,11 @@ module _ (table : Bytes) (c : Call) where
       obeyed (refused r) free = refused-status (deny r)
       obeyed noFrame free = refused-number 104 refl
 
-  pub twice-103 : replyRoom ≤ length (c .buffer) → wholeSlots table ≡ true → (Apart (slotsOf table) → ⊥) → agent table c ≡ refuse 103 table (c .buffer)
-  twice-103 long whole twice = agent-103 table c long whole (ill (wellTable table) refl)
+  pub outside-105 : replyRoom ≤ length (c .buffer) → wholeSlots table ≡ true → slotCount table ≤ c .start → agent table c ≡ refuse 105 table (c .buffer)
+  outside-105 = agent-105 table c
+
+  pub twice-103 : replyRoom ≤ length (c .buffer) → wholeSlots table ≡ true → c .start < slotCount table → (Apart (slotsOf table) → ⊥) → agent table c ≡ refuse 103 table (c .buffer)
+  twice-103 long whole inside twice = agent-103 table c long whole inside (ill (wellTable table) refl)
     where
       ill : (b : Bool) → wellTable table ≡ b → wellTable table ≡ false
       ill true well = absurd (twice (apart (slotsOf table) (table-distinct table whole well)))
@@ -162,29 +150,12 @@ found-is h (taken k x ∷ t) = go (found-is h t)
         (λ p. rw p (next-is h (taken k x) t (find h t) (λ e q. absurd (true≢false (sym (same-refl h) ∙ ap (same h) (sym (same-handle q)) ∙ p))) ih))
 
 -- ---- the slot that a setup takes
-lowest-none : (t : List Slot) (i : ℕ) → i < lowestEmpty t → getElem? t i ≡ some empty → ⊥
-lowest-none [] i h p = omega (arith, h)
-lowest-none (empty ∷ t) i h p = omega (arith, h)
-lowest-none (taken k e ∷ t) zero h p = empty-not-taken (sym p)
-lowest-none (taken k e ∷ t) (suc i) h p = lowest-none t i (omega (arith, h)) p
-
-lowest-there : (t : List Slot) → lowestEmpty t < length t → getElem? t (lowestEmpty t) ≡ some empty
-lowest-there [] h = absurd (omega (arith, h))
-lowest-there (empty ∷ t) h = refl
-lowest-there (taken k e ∷ t) h = lowest-there t (omega (arith, h))
-
-lowest-only : (t : List Slot) (free : ℕ) → getElem? t free ≡ some empty → ((i : ℕ) → i < free → getElem? t i ≡ some empty → ⊥) → free ≡ lowestEmpty t
-lowest-only [] free p n = absurd (not-there p)
-lowest-only (empty ∷ t) zero p n = refl
-lowest-only (empty ∷ t) (suc free) p n = absurd (n 0 (omega arith) refl)
-lowest-only (taken k e ∷ t) zero p n = absurd (empty-not-taken (sym p))
-lowest-only (taken k e ∷ t) (suc free) p n = ap suc (lowest-only t free p (λ i h. n (suc i) (omega (arith, h))))
-
 -- no other slot meets the law
-pub sets-only : (t : List Slot) (h : Bytes) (n : ℕ) (u : List Slot) → SetsLowest t h n u → u ≡ set t (lowestEmpty t) (taken h (reserved n))
-sets-only t h n u s = s .after ∙ ap (λ (i : ℕ). set t i (taken h (reserved n))) (lowest-only t (s .free) (s .is-empty) (s .none-lower))
+pub sets-only : (start : ℕ) (t : List Slot) (h : Bytes) (n : ℕ) (u : List Slot) → start < length t → SetsFirst start t h n u → u ≡ set t (firstEmptyFrom start t) (taken h (reserved n))
+sets-only start t h n u inside s = s .after ∙ ap (λ (i : ℕ). set t i (taken h (reserved n))) (first-only start t inside (s .free) (s .first))
 
-pub sets-lowest : (t : List Slot) (h : Bytes) (n : ℕ) (g : Given) (u : List Slot) → act (lowestEmpty t) t (setup h n) ≡ done g u → SetsLowest t h n u
-sets-lowest t h n g u e =
-    let d = rw e at (acts (lowestEmpty t) t (setup h n)) in
-    record { free = lowestEmpty t; is-empty = lowest-there t (d .room); none-lower = lowest-none t; after = d .after }
+pub sets-first : (start : ℕ) (t : List Slot) (h : Bytes) (n : ℕ) (g : Given) (u : List Slot) → start < length t → act (firstEmptyFrom start t) t (setup h n) ≡ done g u → SetsFirst start t h n u
+sets-first start t h n g u inside e =
+    let d = rw e at (acts (firstEmptyFrom start t) t (setup h n)) in
+    let some : Full t → ⊥ = λ full. omega (arith, d .room, none-empty start t inside .1 full) in
+    record { free = firstEmptyFrom start t; first = first-empty start t inside some; after = d .after }

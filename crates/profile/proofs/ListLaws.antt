@@ -15,7 +15,8 @@ use Rattle.profile.specs.Request.{list}
 use Rattle.profile.specs.Agent.{Given, handles, asked, listed, fitting, firstOf, Answer, done, act}
 use Rattle.profile.specs.Laws.{AskedFor, InSlotOrder, no-slot, asked-for, not-asked, is-lent, is-reserved, is-empty, Shown, WithinLimit, ListsExactly}
 use Rattle.profile.proofs.Logic.{T→eq, or-parts, same-refl, same-eq, ltb-false, ltb-lt, ltb-over, eqb-eq, positive}
-use Rattle.profile.proofs.Laws.{not-there, IsEnabled, enabled-there, same-handle, same-right}
+use Rattle.profile.proofs.FirstEmpty.{not-there}
+use Rattle.profile.proofs.Laws.{IsEnabled, enabled-there, same-handle, same-right}
 
 -- ---- the list of kind 8
 in-head : {A : Type 0} (x : A) (xs : List A) → In x (x ∷ xs)

@@ -13,7 +13,8 @@ use Rattle.profile.specs.History.{Ledger, Opened, open-setup, Owned, for
 use Rattle.profile.specs.Run.{underSlot, underSetup, underRight, underSlots, Agrees}
 use Rattle.profile.specs.Demand3.{Stands, for-use, is-lent, Records}
 use Rattle.profile.proofs.Logic.{same-refl, split}
-use Rattle.profile.proofs.Laws.{not-there, apart}
+use Rattle.profile.proofs.FirstEmpty.{not-there}
+use Rattle.profile.proofs.Laws.{apart}
 use Rattle.profile.proofs.Mirror.{only-one, mirrors}
 
 -- ---- what is gathered from a list comes from one of its items

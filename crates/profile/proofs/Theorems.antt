@@ -13,6 +13,7 @@ use Rattle.profile.proofs.Tables.{slots-table, table-slots, well-table,
 use Rattle.profile.proofs.WellFormed.{table-fits, table-distinct}
 use Rattle.profile.proofs.Turning.{turns, turn-refuses, turned-once}
 use Rattle.profile.proofs.Lookup.{under-once}
+use Rattle.profile.proofs.FirstEmpty.{first-empty, first-only, none-empty, none-alike, from-0}
 use Rattle.profile.proofs.Frames.{reads}
 use Rattle.profile.proofs.Requests.{read-fits, read-write}
 use Rattle.profile.proofs.Writer.{written-reads}
@@ -20,7 +21,7 @@ use Rattle.profile.proofs.WrittenAgain.{written-again}
 use Rattle.profile.proofs.Replies.{replies-read}
 use Rattle.profile.proofs.Statuses.{statuses, never-8, never-read-8}
 use Rattle.profile.proofs.AnyTable.{stays-well}
-use Rattle.profile.proofs.Laws.{apart, apart-distinct, refuses, twice-103, found-is, sets-lowest, sets-only}
+use Rattle.profile.proofs.Laws.{apart, apart-distinct, refuses, outside-105, twice-103, found-is, sets-first, sets-only}
 use Rattle.profile.proofs.ListLaws.{lists-exactly, lists-only}
 use Rattle.profile.proofs.BytesCases.{bytes-hold}
 use Rattle.profile.proofs.TableCases.{tables-hold}
@@ -65,10 +66,16 @@ theorems =
       never-8 = never-8;
       statuses = statuses;
       never-read-8 = never-read-8;
+      outside-105 = outside-105;
       twice-103 = twice-103;
       stays-well = λ table y whole well c. let s = stays-well table y whole well c in record { whole = s .0; well = s .1 };
+      first-empty = first-empty;
+      first-only = first-only;
+      none-empty = none-empty;
+      none-alike = none-alike;
+      from-0 = from-0;
       found-is = found-is;
-      sets-lowest = sets-lowest;
+      sets-first = sets-first;
       sets-only = sets-only;
       lists-exactly = lists-exactly;
       lists-only = lists-only;

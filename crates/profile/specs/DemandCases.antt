@@ -17,7 +17,7 @@ use Rattle.profile.specs.Demand3.{Records, KeyOut, returned, AlikeButKey
 
 -- a call with a frame
 abbrev pub calling : Bytes → Call
-calling f = record { request = f; buffer = replicate 4279 0xAA }
+calling f = record { start = 0; request = f; buffer = replicate 4279 0xAA }
 
 -- a slot with another key, its bytes 11 to 26
 abbrev pub rekeyed : Bytes → Bytes → Bytes

@@ -121,7 +121,7 @@ abbrev pub ledger : Ledger
 ledger = record { setups = open-setup H4 9 ∷ []; rights = forUse H2 counted3 ∷ gone plain ∷ [] }
 
 abbrev pub calls : ℕ → List Bytes → List Call
-calls room fs = map (λ f. record { request = f; buffer = replicate room 0xAA }) fs
+calls room fs = map (λ f. record { start = 0; request = f; buffer = replicate room 0xAA }) fs
 
 pub record Hold : Type 0 where
   pub each : map telling tellings ≡ map (λ c. c .after) tellings

@@ -1,13 +1,13 @@
 -- PROFILE 2.5, 4, 5.1 and 5.8 said once more, each rule in another way than its definition says it: so that a wrong definition is refused.
-use Prim.Native.Nat.{ℕ, _+_, _*_, _≤_, _<_}
+use Prim.Native.Nat.{ℕ, _+_, _-_, _*_, _≤_, _<_}
 use mathlib.Core.Path.{_≡_}
 use mathlib.Core.Logic.{_⊎_, _↔_}
 use mathlib.Core.List.{List, [], _∷_, _++_}
 use mathlib.Core.Option.{some}
 use mathlib.Core.Bool.{Bool, true, false}
-use lib.Dec.{eqb}
+use lib.Dec.{eqb, ltb}
 use lib.ListN.{length, getElem?, set}
-use Rattle.profile.specs.Bytes.{Bytes, In, over}
+use Rattle.profile.specs.Bytes.{Bytes, if_then_else_, In, over}
 use Rattle.profile.specs.Slot.{Right, Entry, reserved, enabled, disabled, Slot, empty, taken}
 use Rattle.profile.specs.Frame.{Refusal, code, kindNumber, statusIn}
 use Rattle.profile.specs.Agent.{Given, handles, Found, absent, one, Call, Outcome}
@@ -33,11 +33,27 @@ abbrev pub FoundIs : Bytes → List Slot → Found → Type 0
 FoundIs h t absent = (i : ℕ) (e : Entry) → getElem? t i ≡ some (taken h e) → ⊥
 FoundIs h t (one i e) = getElem? t i ≡ some (taken h e)
 
--- PROFILE 5.1: of the slots t, the one that a setup takes is empty, no lower one is, and it alone is changed
-pub record SetsLowest (t : List Slot) (h : Bytes) (n : ℕ) (u : List Slot) : Type 0 where
+-- ---- PROFILE 5.1
+-- of n slots, the one that is k steps on from the start: after the last one comes slot 0
+abbrev pub onward : ℕ → ℕ → ℕ → ℕ
+onward n start k = if ltb (start + k) n then start + k else start + k - n
+
+-- every slot is taken: none is empty
+abbrev pub Full : List Slot → Type 0
+Full t = (i : ℕ) → getElem? t i ≡ some empty → ⊥
+
+-- slot i is empty, and is reached from the start past slots that are not, before the start is reached again
+pub record FirstEmpty (start : ℕ) (t : List Slot) (i : ℕ) : Type 0 where
+  pub steps : ℕ
+  pub within : steps < length t
+  pub reached : i ≡ onward (length t) start steps
+  pub is-empty : getElem? t i ≡ some empty
+  pub none-before : (k : ℕ) → k < steps → getElem? t (onward (length t) start k) ≡ some empty → ⊥
+
+-- a setup takes the first empty slot from the start, and changes it alone
+pub record SetsFirst (start : ℕ) (t : List Slot) (h : Bytes) (n : ℕ) (u : List Slot) : Type 0 where
   pub free : ℕ
-  pub is-empty : getElem? t free ≡ some empty
-  pub none-lower : (i : ℕ) → i < free → getElem? t i ≡ some empty → ⊥
+  pub first : FirstEmpty start t free
   pub after : u ≡ set t free (taken h (reserved n))
 
 -- ---- PROFILE 5.8

@@ -62,6 +62,9 @@ replyBufferShort = 101
 abbrev pub tableLength : ℕ
 tableLength = 102
 
+abbrev pub startOutside : ℕ
+startOutside = 105
+
 abbrev pub tableNotWellFormed : ℕ
 tableNotWellFormed = 103
 

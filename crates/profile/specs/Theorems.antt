@@ -1,6 +1,6 @@
 -- What is proved of the definitions, whole: one statement, with a field for each theorem. Its proof is `theorems`,
 -- crates/profile/proofs/Theorems.antt; to believe a theorem, read it here.
-use Prim.Native.Nat.{ℕ, _≤_}
+use Prim.Native.Nat.{ℕ, _≤_, _<_}
 use mathlib.Core.Path.{_≡_}
 use mathlib.Core.Logic.{_↔_}
 use mathlib.Core.List.{List, map}
@@ -11,11 +11,11 @@ use lib.ListN.{length, drop, set}
 use Rattle.profile.specs.Bytes.{Bytes, Bytes256, over, all, any}
 use Rattle.profile.specs.Sizes.{slotSize, replyRoom}
 use Rattle.profile.specs.Slot.{reserved, Slot, taken, distinct, SlotFits, TableFits}
-use Rattle.profile.specs.Table.{unpack, pack, wellSlot, slotBytes, slotsOf, tableOf, wholeSlots, wellTable}
+use Rattle.profile.specs.Table.{unpack, pack, wellSlot, slotBytes, slotCount, slotsOf, tableOf, wholeSlots, wellTable}
 use Rattle.profile.specs.Turning.{unpackBefore, keepsCount, Turned, turn}
 use Rattle.profile.specs.Frame.{Kind, kindOf, isStatus, kindNumber, statusIn}
 use Rattle.profile.specs.Request.{Request, setup, list, asks, readRequest, writeRequest, withVerdict, RequestFits}
-use Rattle.profile.specs.Agent.{Given, Answer, done, find, act, lowestEmpty, replyFrame, Call, Outcome, refuse, replied, agent}
+use Rattle.profile.specs.Agent.{Given, Answer, done, find, act, lowestEmpty, firstEmptyFrom, replyFrame, Call, Outcome, refuse, replied, agent}
 use Rattle.profile.specs.Device.{Fields, requestOf, fieldsIn, Arrays, Written, write, malformed, readReply, sent}
 use Rattle.profile.specs.BytesCases
 use Rattle.profile.specs.SizeCases
@@ -30,7 +30,7 @@ use Rattle.profile.specs.ListingCases
 use Rattle.profile.specs.HistoryCases
 use Rattle.profile.specs.DemandCases
 use Rattle.profile.specs.Demand3.{Demand3}
-use Rattle.profile.specs.Laws.{Apart, Refuses, AStatus, FoundIs, SetsLowest, ListsExactly}
+use Rattle.profile.specs.Laws.{Apart, Refuses, AStatus, FoundIs, Full, FirstEmpty, SetsFirst, ListsExactly}
 
 -- ---- the words of the theorems below
 -- the slots that a well-formed table holds: of their sizes, their handles distinct, and packed they are the table
@@ -105,14 +105,25 @@ pub record Theorems : Type 0 where
   pub never-8 : (table : Bytes) (c : Call) → eqb (agent table c .number) 0 ≡ true → eqb (statusIn (agent table c .reply)) 8 ≡ false
   pub statuses : (s : ℕ) → (isStatus s ≡ true) ↔ AStatus s
   pub never-read-8 : (f : Bytes) → statusIn f ≡ 8 → readReply f ≡ malformed
-  -- PROFILE 4.1: one handle in two slots is 103, whatever the frame
-  pub twice-103 : (table : Bytes) (c : Call) → replyRoom ≤ length (c .buffer) → wholeSlots table ≡ true → (Apart (slotsOf table) → ⊥) → agent table c ≡ refuse 103 table (c .buffer)
+  -- PROFILE 4.1: a start that is no slot's number is 105, and one handle in two slots is 103, whatever the frame
+  pub outside-105 : (table : Bytes) (c : Call) → replyRoom ≤ length (c .buffer) → wholeSlots table ≡ true → slotCount table ≤ c .start → agent table c ≡ refuse 105 table (c .buffer)
+  pub twice-103 : (table : Bytes) (c : Call) → replyRoom ≤ length (c .buffer) → wholeSlots table ≡ true → c .start < slotCount table → (Apart (slotsOf table) → ⊥)
+      → agent table c ≡ refuse 103 table (c .buffer)
   -- PROFILE 2.5: a well-formed table stays so
   pub stays-well : (table : Bytes) → Bytes256 table → wholeSlots table ≡ true → wellTable table ≡ true → (c : Call) → Stays (agent table c .table)
+  -- PROFILE 5.1: the search from a start: the first empty slot on its way, if there is one, and no other; none exactly where every slot is taken, so
+  -- from any two starts alike; from slot 0 the lowest
+  pub first-empty : (start : ℕ) (t : List Slot) → start < length t → (Full t → ⊥) → FirstEmpty start t (firstEmptyFrom start t)
+  pub first-only : (start : ℕ) (t : List Slot) → start < length t → (i : ℕ) → FirstEmpty start t i → i ≡ firstEmptyFrom start t
+  pub none-empty : (start : ℕ) (t : List Slot) → start < length t → (firstEmptyFrom start t ≡ length t) ↔ Full t
+  pub none-alike : (a b : ℕ) (t : List Slot) → a < length t → b < length t → (firstEmptyFrom a t ≡ length t) ↔ (firstEmptyFrom b t ≡ length t)
+  pub from-0 : (t : List Slot) → firstEmptyFrom 0 t ≡ lowestEmpty t
   -- PROFILE 5: the slot found under a handle, the slot that a setup takes, the handles listed; no other slot and no other list meets these laws
   pub found-is : (h : Bytes) (t : List Slot) → FoundIs h t (find h t)
-  pub sets-lowest : (t : List Slot) (h : Bytes) (n : ℕ) (g : Given) (u : List Slot) → act (lowestEmpty t) t (setup h n) ≡ done g u → SetsLowest t h n u
-  pub sets-only : (t : List Slot) (h : Bytes) (n : ℕ) (u : List Slot) → SetsLowest t h n u → u ≡ set t (lowestEmpty t) (taken h (reserved n))
+  pub sets-first : (start : ℕ) (t : List Slot) (h : Bytes) (n : ℕ) (g : Given) (u : List Slot) → start < length t → act (firstEmptyFrom start t) t (setup h n) ≡ done g u
+      → SetsFirst start t h n u
+  pub sets-only : (start : ℕ) (t : List Slot) (h : Bytes) (n : ℕ) (u : List Slot) → start < length t → SetsFirst start t h n u
+      → u ≡ set t (firstEmptyFrom start t) (taken h (reserved n))
   pub lists-exactly : (free : ℕ) (t : List Slot) (limit : ℕ) (q : List Bytes) → (g : Given) × (act free t (list limit q) ≡ done g t) × ListsExactly limit q t g
   pub lists-only : (free : ℕ) (t : List Slot) (limit : ℕ) (q : List Bytes) (g : Given) → ListsExactly limit q t g → act free t (list limit q) ≡ done g t
   -- PROFILE 9, and every rule in worked cases, table by table
