@@ -15,9 +15,9 @@ use Rattle.request_reader.specs.Answer.{Answers}
 abbrev pub outcome : ℕ → Bytes → Bytes → Outcome
 outcome n reply table = record { number = n; reply = reply; table = table }
 
--- a call with this frame and this reply buffer
-abbrev pub callOf : Bytes → Bytes → Call
-callOf frame buffer = record { request = frame; buffer = buffer }
+-- a call from this start, with this frame and this reply buffer
+abbrev pub callOf : ℕ → Bytes → Bytes → Call
+callOf start frame buffer = record { start = start; request = frame; buffer = buffer }
 
 -- why an answer is no request
 abbrev pub whyOf : Ask → Why

@@ -1,21 +1,24 @@
-// The card agent: one call, with a request frame, a lent table of slots and a lent reply buffer (PROFILE 1.1).
+// The card agent: one call, with a lent table of slots, a start, a request frame and a lent reply buffer (PROFILE 1.1).
 use decisions::decision::AWAITED;
 use decisions::decision::INSTALLED;
 use profile::number::DONE;
 use profile::number::REPLY_BUFFER_SHORT;
+use profile::number::START_OUTSIDE;
 use profile::number::TABLE_LENGTH;
 use profile::number::TABLE_NOT_WELL_FORMED;
 use profile::sizes::REPLY_ROOM;
+use profile::sizes::SLOT_BYTES;
 use request_reader::asked::Ask;
 use request_reader::asked::Asked;
 use request_reader::asked::Body;
 use request_reader::asked::Why;
 ghost use mathlib.Core.Path.{_≡_};
 ghost use lib.ListN.{length};
-ghost use Rattle.profile.specs.Table.{slotsOf};
+ghost use Prim.Native.Nat.{_<_};
+ghost use Rattle.profile.specs.Table.{slotCount, slotsOf};
 ghost use Rattle.profile.specs.Frame.{kindNumber};
 ghost use Rattle.profile.specs.Request.{readRequest, retrieve as retrieval, rek};
-ghost use Rattle.profile.specs.Agent.{agent, obey, onBytes, lowestEmpty};
+ghost use Rattle.profile.specs.Agent.{agent, obey, onBytes, firstEmptyFrom};
 ghost use Rattle.request_reader.specs.Answer.{bodyMeans};
 ghost use Rattle.decisions.specs.Serving.{Ready, Serves, answerAt, answerTo};
 ghost use Rattle.agent.specs.Call.{outcome, callOf, whyOf, Asks};
@@ -50,15 +53,15 @@ fn query_key(table: &mut [u8], reply: &mut [u8], asked: Asked)
     rights::lend::lend(table, reply, h, k, 4)
 }
 
-// What a request does, kind by kind. Each takes from what was read the fields that it has.
-fn serve(table: &mut [u8], frame: &[u8], reply: &mut [u8], asked: Asked, body: Body)
-    requires { ⌜ Ready (now table) (now reply) × Asks (now frame) asked body ⌝ }
-    ensures { λ _. ⌜ Serves (kindNumber (now (frame .entry))) (answerAt (lowestEmpty (slotsOf (now (table .entry)))) (now (table .entry)) (bodyMeans (now (frame .entry)) body asked)) (now (table .entry)) (now (reply .entry)) (now (table .exit)) (now (reply .exit)) ⌝ }
+// What a request does, kind by kind. Each takes from what was read the fields that it has; only a setup takes the start.
+fn serve(table: &mut [u8], start: usize, frame: &[u8], reply: &mut [u8], asked: Asked, body: Body)
+    requires { ⌜ Ready (now table) (now reply) × (start < slotCount (now table)) × Asks (now frame) asked body ⌝ }
+    ensures { λ _. ⌜ Serves (kindNumber (now (frame .entry))) (answerAt (firstEmptyFrom start (slotsOf (now (table .entry)))) (now (table .entry)) (bodyMeans (now (frame .entry)) body asked)) (now (table .entry)) (now (reply .entry)) (now (table .exit)) (now (reply .exit)) ⌝ }
 {
     match body {
         Body::Setup { length } => {
             let h = asked.handle;
-            setups::setup::set_up(table, reply, h, length)
+            setups::setup::set_up(table, start, reply, h, length)
         }
         Body::Install { hashes, at, length } => {
             let h = asked.handle;
@@ -97,23 +100,23 @@ fn serve(table: &mut [u8], frame: &[u8], reply: &mut [u8], asked: Asked, body: B
 }
 
 // On a well-formed table: 104, a status, or what the request does.
-fn answer(table: &mut [u8], frame: &[u8], reply: &mut [u8]) -> u16
-    requires { ⌜ Ready (now table) (now reply) ⌝ }
-    ensures { λ r. ⌜ outcome r (now (reply .exit)) (now (table .exit)) ≡ onBytes (kindNumber (now (frame .entry))) (obey (readRequest (now (frame .entry))) (lowestEmpty (slotsOf (now (table .entry)))) (slotsOf (now (table .entry)))) (now (table .entry)) (now (reply .entry)) ⌝ }
+fn answer(table: &mut [u8], start: usize, frame: &[u8], reply: &mut [u8]) -> u16
+    requires { ⌜ Ready (now table) (now reply) × (start < slotCount (now table)) ⌝ }
+    ensures { λ r. ⌜ outcome r (now (reply .exit)) (now (table .exit)) ≡ onBytes (kindNumber (now (frame .entry))) (obey (readRequest (now (frame .entry))) (firstEmptyFrom start (slotsOf (now (table .entry)))) (slotsOf (now (table .entry)))) (now (table .entry)) (now (reply .entry)) ⌝ }
 {
     let asked = request_reader::reader::read_request(frame);
     let ask = asked.ask;
     let Ask::Yes(body) = ask else {
         return refusals::refuse(frame, reply, why_of(ask));
     };
-    serve(table, frame, reply, asked, body);
+    serve(table, start, frame, reply, asked, body);
     DONE
 }
 
-// PROFILE 4.1. 101, 102, 103 and 104, tested in this order and with no byte changed; otherwise 0, the reply and the new table.
-// Nothing is required of what is lent.
-pub fn call(table: &mut [u8], frame: &[u8], reply: &mut [u8]) -> u16
-    ensures { λ r. ⌜ outcome r (now (reply .exit)) (now (table .exit)) ≡ agent (now (table .entry)) (callOf (now (frame .entry)) (now (reply .entry))) ⌝ }
+// PROFILE 4.1. 101, 102, 105, 103 and 104, tested in this order and with no byte changed; otherwise 0, the reply and the new
+// table. Nothing is required of what is lent, nor of the start.
+pub fn call(table: &mut [u8], start: usize, frame: &[u8], reply: &mut [u8]) -> u16
+    ensures { λ r. ⌜ outcome r (now (reply .exit)) (now (table .exit)) ≡ agent (now (table .entry)) (callOf start (now (frame .entry)) (now (reply .entry))) ⌝ }
 {
     if reply.len() < REPLY_ROOM {
         return REPLY_BUFFER_SHORT;
@@ -121,8 +124,11 @@ pub fn call(table: &mut [u8], frame: &[u8], reply: &mut [u8]) -> u16
     if !tables::part::whole_slots(table) {
         return TABLE_LENGTH;
     }
+    if table.len() / SLOT_BYTES <= start {
+        return START_OUTSIDE;
+    }
     if !tables::table::well_table(table) {
         return TABLE_NOT_WELL_FORMED;
     }
-    answer(table, frame, reply)
+    answer(table, start, frame, reply)
 }

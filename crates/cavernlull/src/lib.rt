@@ -22,13 +22,18 @@ ghost use Rattle.request_writer.specs.Writing.{wrote};
 ghost use Rattle.turning.specs.Turns.{turned};
 ghost use Rattle.cavernlull.specs.Numbers.{left, ReadsInto};
 
-// The card agent (PROFILE 1.1): answers one request frame. With 0 the reply stands at the start of `reply`, whose other bytes stay, and
-// `table` is as the request leaves it. With 101 to 104 (PROFILE 4.1) nothing is changed.
+// The card agent (PROFILE 1.1): answers one request frame. A setup searches for an empty slot from `start`. With 0 the reply stands at the
+// start of `reply`, whose other bytes stay, and `table` is as the request leaves it. With 101 to 105 (PROFILE 4.1) nothing is changed.
 #[no_mangle]
-pub extern "C" fn cavernlull_call(table: &mut [u8], frame: &[u8], reply: &mut [u8]) -> u16
-    ensures { λ r. ⌜ outcome r (now (reply .exit)) (now (table .exit)) ≡ agentOf (now (table .entry)) (callOf (now (frame .entry)) (now (reply .entry))) ⌝ }
+pub extern "C" fn cavernlull_call(
+    table: &mut [u8],
+    start: usize,
+    frame: &[u8],
+    reply: &mut [u8],
+) -> u16
+    ensures { λ r. ⌜ outcome r (now (reply .exit)) (now (table .exit)) ≡ agentOf (now (table .entry)) (callOf start (now (frame .entry)) (now (reply .entry))) ⌝ }
 {
-    agent::call(table, frame, reply)
+    agent::call(table, start, frame, reply)
 }
 
 // The request writer of a device (PROFILE 6.2): takes a kind and the fields of all kinds, of which those that the kind lacks must be zero or

@@ -47,25 +47,25 @@ empty-at (s ∷ t) zero e = rw (Option·some-injective s empty e) here
 empty-at (s ∷ t) (suc i) e = there (empty-at t i e)
 
 -- behind the first n slots, and among them
-empty-drop : (n : ℕ) (t : List Slot) (i : ℕ) → getElem? (drop n t) i ≡ getElem? t (n + i)
-empty-drop zero t i = ap (getElem? t) (omega arith)
-empty-drop (suc n) [] i = refl
-empty-drop (suc n) (s ∷ t) i = empty-drop n t i ∙ ap (getElem? (s ∷ t)) {x = suc (n + i)} {y = suc n + i} (omega arith)
+pub at-drop : (n : ℕ) (t : List Slot) (i : ℕ) → getElem? (drop n t) i ≡ getElem? t (n + i)
+at-drop zero t i = ap (getElem? t) (omega arith)
+at-drop (suc n) [] i = refl
+at-drop (suc n) (s ∷ t) i = at-drop n t i ∙ ap (getElem? (s ∷ t)) {x = suc (n + i)} {y = suc n + i} (omega arith)
 
-empty-take : (n : ℕ) (t : List Slot) (i : ℕ) → i < n → getElem? (take n t) i ≡ getElem? t i
-empty-take zero t i h = absurd (omega (arith, h))
-empty-take (suc n) [] i h = refl
-empty-take (suc n) (s ∷ t) zero h = refl
-empty-take (suc n) (s ∷ t) (suc i) h = empty-take n t i (omega (arith, h))
+at-take : (n : ℕ) (t : List Slot) (i : ℕ) → i < n → getElem? (take n t) i ≡ getElem? t i
+at-take zero t i h = absurd (omega (arith, h))
+at-take (suc n) [] i h = refl
+at-take (suc n) (s ∷ t) zero h = refl
+at-take (suc n) (s ∷ t) (suc i) h = at-take n t i (omega (arith, h))
 
 -- ---- the lowest empty slot
-pub lowest-none : (t : List Slot) (i : ℕ) → i < lowestEmpty t → Empty t i → ⊥
+lowest-none : (t : List Slot) (i : ℕ) → i < lowestEmpty t → Empty t i → ⊥
 lowest-none [] i h p = omega (arith, h)
 lowest-none (empty ∷ t) i h p = omega (arith, h)
 lowest-none (taken k e ∷ t) zero h p = empty-not-taken (sym p)
 lowest-none (taken k e ∷ t) (suc i) h p = lowest-none t i (omega (arith, h)) p
 
-pub lowest-there : (t : List Slot) → lowestEmpty t < length t → Empty t (lowestEmpty t)
+lowest-there : (t : List Slot) → lowestEmpty t < length t → Empty t (lowestEmpty t)
 lowest-there [] h = absurd (omega (arith, h))
 lowest-there (empty ∷ t) h = refl
 lowest-there (taken k e ∷ t) h = lowest-there t (omega (arith, h))
@@ -74,13 +74,6 @@ lowest-most : (t : List Slot) → lowestEmpty t ≤ length t
 lowest-most [] = omega arith
 lowest-most (empty ∷ t) = omega arith
 lowest-most (taken k e ∷ t) = omega (arith, lowest-most t)
-
-pub lowest-only : (t : List Slot) (i : ℕ) → Empty t i → ((j : ℕ) → j < i → Empty t j → ⊥) → i ≡ lowestEmpty t
-lowest-only [] i p n = absurd (not-there p)
-lowest-only (empty ∷ t) zero p n = refl
-lowest-only (empty ∷ t) (suc i) p n = absurd (n 0 (omega arith) refl)
-lowest-only (taken k e ∷ t) zero p n = absurd (empty-not-taken (sym p))
-lowest-only (taken k e ∷ t) (suc i) p n = ap suc (lowest-only t i p (λ j h. n (suc j) (omega (arith, h))))
 
 -- ---- where a search from the start ends: at or above the start, below it, or nowhere
 data Ends (start : ℕ) (t : List Slot) (i : ℕ) : Type 0 where
@@ -94,7 +87,7 @@ module _ (start : ℕ) (t : List Slot) (inside : start < length t) where
 
   -- from slot j on, j at or above the start
   from-start : (j : ℕ) → start ≤ j → getElem? (drop start t) (j - start) ≡ getElem? t j
-  from-start j h = empty-drop start t (j - start) ∙ ap (getElem? t) (omega (arith, h))
+  from-start j h = at-drop start t (j - start) ∙ ap (getElem? t) (omega (arith, h))
 
   none-up : (j : ℕ) → start ≤ j → j < start + up → Empty t j → ⊥
   none-up j h k p = lowest-none (drop start t) (j - start) (omega (arith, h, k)) (from-start j h ∙ p)
@@ -106,7 +99,7 @@ module _ (start : ℕ) (t : List Slot) (inside : start < length t) where
   low = lowestEmpty (take start t)
 
   none-low : (j : ℕ) → j < low → j < start → Empty t j → ⊥
-  none-low j h k p = lowest-none (take start t) j h (empty-take start t j k ∙ p)
+  none-low j h k p = lowest-none (take start t) j h (at-take start t j k ∙ p)
 
   first-length : length (take start t) ≡ start
   first-length = length-take start t ∙ omega (arith, inside)
@@ -116,15 +109,15 @@ module _ (start : ℕ) (t : List Slot) (inside : start < length t) where
   ends =
       if-cases (Ends start t) (ltb (start + up) (length t))
       (λ e. let h = ltb-lt (start + up) (length t) e in
-        above (omega arith) h
-        (sym (empty-drop start t up) ∙ lowest-there (drop start t) (omega (arith, h, length-drop start t)))
-        (λ j a b. none-up j a b))
+      above (omega arith) h
+      (sym (at-drop start t up) ∙ lowest-there (drop start t) (omega (arith, h, length-drop start t)))
+      (λ j a b. none-up j a b))
       (λ e. let past = none-to-the-last (ltb-over (start + up) (length t) e) in
-        if-cases (Ends start t) (ltb low start)
-        (λ f. let h = ltb-lt low start f in
-          below h (sym (empty-take start t low h) ∙ lowest-there (take start t) (omega (arith, h, first-length))) past
-          (λ j a. none-low j a (omega (arith, a, h))))
-        (λ f. nowhere refl (λ j p. if-start past (ltb-over low start f) j p)))
+      if-cases (Ends start t) (ltb low start)
+      (λ f. let h = ltb-lt low start f in
+      below h (sym (at-take start t low h) ∙ lowest-there (take start t) (omega (arith, h, first-length))) past
+      (λ j a. none-low j a (omega (arith, a, h))))
+      (λ f. nowhere refl (λ j p. if-start past (ltb-over low start f) j p)))
     where
       if-start : ((j : ℕ) → start ≤ j → Empty t j → ⊥) → start ≤ low → (j : ℕ) → Empty t j → ⊥
       if-start past full j p = go (ltb j start) refl
@@ -144,6 +137,9 @@ onward-round n start k h = rw (ltb-false (start + k) n h)
 by-step : (P : ℕ → Type 0) (n start k : ℕ) → (start + k < n → P (start + k)) → (n ≤ start + k → P (start + k - n)) → P (onward n start k)
 by-step P n start k up round = if-cases P (ltb (start + k) n) (λ e. up (ltb-lt (start + k) n e)) (λ e. round (ltb-over (start + k) n e))
 
+pub onward-below : (n start k : ℕ) → start < n → k < n → onward n start k < n
+onward-below n start k p q = by-step (λ (i : ℕ). i < n) n start k (λ h. h) (λ h. omega (arith, p, q, h))
+
 module _ (start : ℕ) (t : List Slot) (inside : start < length t) where
   abbrev n : ℕ
   n = length t
@@ -156,8 +152,8 @@ module _ (start : ℕ) (t : List Slot) (inside : start < length t) where
         reached = sym (onward-up n start (i - start) (omega (arith, h, l)) ∙ omega (arith, h));
         is-empty = p;
         none-before = λ k b. by-step (λ (j : ℕ). Empty t j → ⊥) n start k
-          (λ _. unmet (start + k) (omega arith) (omega (arith, b)))
-          (λ c. absurd (omega (arith, b, c, l)));
+            (λ _. unmet (start + k) (omega arith) (omega (arith, b)))
+            (λ c. absurd (omega (arith, b, c, l)));
       }
   first-of i (below l p past unmet) room =
       record {
@@ -166,8 +162,8 @@ module _ (start : ℕ) (t : List Slot) (inside : start < length t) where
         reached = sym (onward-round n start (n - start + i) (omega (arith, inside)) ∙ omega (arith, inside));
         is-empty = p;
         none-before = λ k b. by-step (λ (j : ℕ). Empty t j → ⊥) n start k
-          (λ _. past (start + k) (omega arith))
-          (λ c. unmet (start + k - n) (omega (arith, b, c, inside)));
+            (λ _. past (start + k) (omega arith))
+            (λ c. unmet (start + k - n) (omega (arith, b, c, inside)));
       }
   first-of i (nowhere e full) room = absurd (room full)
 
@@ -216,6 +212,24 @@ module _ (start : ℕ) (t : List Slot) (inside : start < length t) where
 
   pub first-free : Free (firstEmptyFrom start t) t
   first-free h = empty-at t (firstEmptyFrom start t) (first-empty (λ full. omega (arith, h, none-empty .1 full)) .is-empty)
+
+-- the way from the start has every slot on it: where none on it is empty, every slot is taken
+module _ (start : ℕ) (t : List Slot) (inside : start < length t) where
+  pub all-seen : ((k : ℕ) → k < length t → Empty t (onward (length t) start k) → ⊥) → Full t
+  all-seen unmet i p = go (ltb i start) refl
+    where
+      l : i < length t
+      l = empty-within t i p
+
+      go : (b : Bool) → ltb i start ≡ b → ⊥
+      go true e =
+          let below = ltb-lt i start e in
+          let round : onward (length t) start (length t - start + i) ≡ i = onward-round (length t) start (length t - start + i) (omega (arith, inside)) ∙ omega (arith, inside) in
+          unmet (length t - start + i) (omega (arith, below, inside)) (ap (getElem? t) round ∙ p)
+      go false e =
+          let above = ltb-over i start e in
+          let up : onward (length t) start (i - start) ≡ i = onward-up (length t) start (i - start) (omega (arith, above, l)) ∙ omega (arith, above) in
+          unmet (i - start) (omega (arith, above, l)) (ap (getElem? t) up ∙ p)
 
 -- with any two starts alike
 pub none-alike : (a b : ℕ) (t : List Slot) → a < length t → b < length t → (firstEmptyFrom a t ≡ length t) ↔ (firstEmptyFrom b t ≡ length t)

@@ -6,6 +6,8 @@ pub const REPLY_BUFFER_SHORT: u16 = 101;
 
 pub const TABLE_LENGTH: u16 = 102;
 
+pub const START_OUTSIDE: u16 = 105;
+
 pub const TABLE_NOT_WELL_FORMED: u16 = 103;
 
 pub const NO_FRAME: u16 = 104;

@@ -11,9 +11,9 @@ use Rattle.profile.specs.Slot.{Right, Entry, reserved, enabled, taken, inUse}
 use Rattle.profile.specs.Table.{placeOf, lengthOf, slotCount, slotsOf}
 use Rattle.profile.specs.Frame.{parameter, duplicate, noSpace, code}
 use Rattle.profile.specs.Request.{setup, install}
-use Rattle.profile.specs.Agent.{Answer, nothing, done, find, installAt, act, lowestEmpty}
+use Rattle.profile.specs.Agent.{Answer, nothing, done, find, installAt, act, firstEmptyFrom}
 use Rattle.profile.proofs.Logic.{leb-over, or-parts}
-use Rattle.profile.proofs.Lookup.{lowestEmpty-free}
+use Rattle.profile.proofs.FirstEmpty.{first-free}
 use Rattle.slots.specs.declared.place.Place.the-variants.{Reserved}
 use Rattle.tables.specs.LookUp.{foundAt}
 use Rattle.tables.proofs.SlotParts.{length-slots}
@@ -67,11 +67,11 @@ module _ (T h : Bytes) (n free : ℕ) where
       unfolding act
       sets-up y = rw (ne-eqb n 0 some, fresh, length-slots T, ← taken-is, y)
 
--- the lowest empty slot, where there is room: one of the table's, and empty
-pub has-room : (T B : Bytes) → Ready T B → (n i : ℕ) → i ≡ lowestEmpty (slotsOf T) → (ltb mostPayload n || leb (slotCount T) i) ≡ false → Has T i × (placeOf (slotAt T i) ≡ 0)
-has-room T B r n i lowest y = (
+-- the first empty slot from the start, where there is room: one of the table's, and empty
+pub has-room : (T B : Bytes) → Ready T B → (start : ℕ) → start < slotCount T → (n i : ℕ) → i ≡ firstEmptyFrom start (slotsOf T) → (ltb mostPayload n || leb (slotCount T) i) ≡ false → Has T i × (placeOf (slotAt T i) ≡ 0)
+has-room T B r start inside n i first y = (
   record { whole = r .whole; well = r .well; inside = below },
-  rw lowest (free-place T (r .whole) (r .well) (lowestEmpty (slotsOf T)) (lowestEmpty-free (slotsOf T) (rw (length-slots T, ← lowest) below))),
+  rw first (free-place T (r .whole) (r .well) (firstEmptyFrom start (slotsOf T)) (first-free start (slotsOf T) (rw (length-slots T) inside) (rw (length-slots T, ← first) below))),
 )
   where
     below : i < slotCount T

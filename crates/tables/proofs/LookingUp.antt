@@ -14,7 +14,8 @@ use Rattle.profile.specs.Slot.{Entry, Slot, empty, taken, named, inUse}
 use Rattle.profile.specs.Table.{placeOf, unpack, slotCount, slotsOf}
 use Rattle.profile.specs.Agent.{absent, one, next, find}
 use Rattle.profile.proofs.Logic.{or-parts}
-use Rattle.profile.proofs.Laws.{not-there, found-is}
+use Rattle.profile.proofs.FirstEmpty.{not-there}
+use Rattle.profile.proofs.Laws.{found-is}
 use Rattle.slots.specs.declared.place.Place.{Place}
 use Rattle.tables.specs.declared.lookup.Lookup.the-variants.{Absent, At}
 use Rattle.slots.specs.Places.{placeNumber, placeOfEntry}

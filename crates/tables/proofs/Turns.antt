@@ -7,7 +7,6 @@ use lib.ListN.{drop}
 use Rattle.profile.specs.Bytes.{Bytes, part, all}
 use Rattle.profile.specs.Slot.{Slot, empty, taken, named, inUse, distinct}
 use Rattle.profile.specs.Table.{placeOf, unpack, slotCount, slotBytes, slotsOf}
-use Rattle.profile.specs.Agent.{lowestEmpty}
 use Rattle.slots.proofs.Turns.{all-pass, all-stop}
 use Rattle.slots.proofs.Unpacking.{unpack-empty, unpack-taken}
 use Rattle.tables.specs.Again.{again}
@@ -49,12 +48,6 @@ module _ (t : Bytes) (i : ℕ) (h : i < slotCount t) (s : Bytes) (e : s ≡ part
   unfolding again
   again-taken p = rw (slots-from, unpack-taken s p .1)
 
-  pub empty-stop : placeOf s ≡ 0 → lowestEmpty (drop i (slotsOf t)) ≡ 0
-  empty-stop p = rw (slots-from, unpack-empty s p)
-
-  pub empty-pass : (placeOf s ≡ 0 → ⊥) → lowestEmpty (drop i (slotsOf t)) ≡ suc (lowestEmpty (drop (i + 1) (slotsOf t)))
-  empty-pass p = rw (slots-from, unpack-taken s p .1)
-
   pub under-stop : (k : Bytes) → named k (unpack s) ≡ true → firstUnder k (drop i (slotsOf t)) ≡ 0
   unfolding firstUnder
   under-stop k p = rw (slots-from, p)
@@ -70,9 +63,6 @@ module _ (t : Bytes) (i : ℕ) (h : slotCount t ≤ i) where
 
   pub distinct-end : distinct (drop i (slotsOf t)) ≡ true
   distinct-end = rw (slots-end t i h)
-
-  pub empty-end : lowestEmpty (drop i (slotsOf t)) ≡ 0
-  empty-end = rw (slots-end t i h)
 
   pub under-end : (k : Bytes) → firstUnder k (drop i (slotsOf t)) ≡ 0
   unfolding firstUnder

@@ -2,5 +2,5 @@
 pub mod part; // part.rt: the table's slots, one by one
 pub mod handle; // handle.rt: slots under a handle
 pub mod table; // table.rt: a well-formed table
-pub mod room; // room.rt: the lowest empty slot
+pub mod room; // room.rt: the first empty slot from a start
 pub mod lookup; // lookup.rt: the record under a handle

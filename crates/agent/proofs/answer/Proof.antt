@@ -4,7 +4,7 @@ use mathlib.Core.Path.{_≡_}
 use borrow.Author.Needs.{needs}
 use Rattle.profile.specs.Table.{slotsOf}
 use Rattle.profile.specs.Request.{readRequest}
-use Rattle.profile.specs.Agent.{lowestEmpty}
+use Rattle.profile.specs.Agent.{firstEmptyFrom}
 use Rattle.request_reader.specs.declared.asked.Why.{Why}
 use Rattle.request_reader.specs.Answer.{whyMeans}
 use Rattle.agent.specs.Call.{whyOf}
@@ -34,7 +34,7 @@ why-of-requires : tie.Need-why-of-requires
 why-of-requires c κs = search needs
 
 refuse-requires : tie.Need-refuse-requires
-refuse-requires c κs = (no-request (c .before .before) (c .why-of .ensures), start (c .before .before .before .before) .pre .room)
+refuse-requires c κs = (no-request (c .before .before) (c .why-of .ensures), start (c .before .before .before .before) .pre .0 .room)
 
 same-length : tie.Need-same-length
 same-length c = search needs
@@ -44,8 +44,9 @@ returns c =
     let refused = c .before .before in
     let why = refused .before in
     let told = why .before .before in
-    let t = now (start (told .before .before) .args .table) in
-    refusal-obeys _ _ _ _ _ (refused .refuse .ensures) (no-request told (why .why-of .ensures)) (lowestEmpty (slotsOf t)) (slotsOf t) t
+    let s = start (told .before .before) in
+    let t = now (s .args .table) in
+    refusal-obeys _ _ _ _ _ (refused .refuse .ensures) (no-request told (why .why-of .ensures)) (firstEmptyFrom (s .args .start) (slotsOf t)) (slotsOf t) t
 
 serve-requires : tie.Need-serve-requires
 serve-requires c κs = search needs

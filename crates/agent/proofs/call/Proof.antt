@@ -1,34 +1,39 @@
--- `agent::call` meets its contract: the numbers 101 to 103, and then what the frame asks. Assumes nothing.
+-- `agent::call` meets its contract: the numbers 101, 102, 105 and 103, and then what the frame asks. Assumes nothing.
 use denote.Ref.{now}
+use Prim.Native.Nat.{_<_}
 use mathlib.Core.Path.{_≡_, sym, _∙_}
 use mathlib.Core.Bool.{true}
+use native.Mathlib.Omega.{arith}
 use borrow.Author.Needs.{needs}
 use borrow.Author.Tests.{not-true, not-false}
-use Rattle.profile.specs.Table.{wholeSlots, wellTable}
+use Rattle.profile.specs.Table.{slotCount, wholeSlots, wellTable}
 use Rattle.profile.specs.Agent.{Call}
-use Rattle.profile.proofs.Numbers.{agent-101, agent-102, agent-103, agent-obeys}
+use Rattle.profile.proofs.Numbers.{agent-101, agent-102, agent-105, agent-103, agent-obeys}
 use Rattle.agent.specs.Call.{callOf}
 use Rattle.agent.proofs.call.Statement.{statement}
 use Rattle.agent.proofs.call.Tie as tie
 
--- what is known once the tests for 101, for 102 and for 103 are passed
+-- what is known once the tests for 101, for 102, for 105 and for 103 are passed
 module _ (long : tie.Else1) where
   abbrev start : tie.Start
   start = long .before .before .before .before
 
   abbrev asked : Call
-  asked = callOf (now (start .args .frame)) (now (start .args .reply))
+  asked = callOf (start .args .start) (now (start .args .frame)) (now (start .args .reply))
 
 whole : (w : tie.Else2) → wholeSlots (now (start (w .before .before .before) .args .table)) ≡ true
 whole w = sym (w .before .whole-slots .ensures) ∙ not-false _ (w .if2 .left)
 
-well : (w : tie.Else3) → wellTable (now (start (w .before .before .before .before .before .before) .args .table)) ≡ true
-well w = sym (w .before .well-table .ensures) ∙ not-false _ (w .if3 .left)
+inside : (i : tie.Else3) → start (i .before .before .before .before) .args .start < slotCount (now (start (i .before .before .before .before) .args .table))
+inside i = omega (arith, i .if3 .left)
+
+well : (l : tie.Else4) → wellTable (now (start (l .before .before .before .before .before .before .before) .args .table)) ≡ true
+well l = sym (l .before .well-table .ensures) ∙ not-false _ (l .if4 .left)
 
 returns : tie.Need-returns
 returns c =
     let a = c .before .before .before .before .args in
-    sym (agent-101 (now (a .table)) (callOf (now (a .frame)) (now (a .reply))) (c .if1 .taken))
+    sym (agent-101 (now (a .table)) (callOf (a .start) (now (a .frame)) (now (a .reply))) (c .if1 .taken))
 
 whole-slots-requires : tie.Need-whole-slots-requires
 whole-slots-requires c κs = search needs
@@ -41,37 +46,49 @@ returns-2 c =
     let long = c .before .before .before in
     sym (agent-102 (now (start long .args .table)) (asked long) (long .if1 .left) (sym (c .before .whole-slots .ensures) ∙ not-true _ (c .if2 .taken)))
 
-well-table-requires : tie.Need-well-table-requires
-well-table-requires c κs = search needs
-
 same-length-2 : tie.Need-same-length-2
 same-length-2 c = search needs
 
 returns-3 : tie.Need-returns-3
 returns-3 c =
-    let w = c .before .before .before in
+    let w = c .before in
     let long = w .before .before .before in
-    sym (agent-103 (now (start long .args .table)) (asked long) (long .if1 .left) (whole w) (sym (c .before .well-table .ensures) ∙ not-true _ (c .if3 .taken)))
+    sym (agent-105 (now (start long .args .table)) (asked long) (long .if1 .left) (whole w) (c .if3 .taken))
 
-answer-requires : tie.Need-answer-requires
-answer-requires c κs =
-    let last = c .before .before in
-    let w = last .before .before .before in
-    record { whole = whole w; well = well last; room = w .before .before .before .if1 .left }
+well-table-requires : tie.Need-well-table-requires
+well-table-requires c κs = search needs
 
 same-length-3 : tie.Need-same-length-3
 same-length-3 c = search needs
 
+returns-4 : tie.Need-returns-4
+returns-4 c =
+    let i = c .before .before .before in
+    let w = i .before in
+    let long = w .before .before .before in
+    sym (agent-103 (now (start long .args .table)) (asked long) (long .if1 .left) (whole w) (inside i) (sym (c .before .well-table .ensures) ∙ not-true _ (c .if4 .taken)))
+
+answer-requires : tie.Need-answer-requires
+answer-requires c κs =
+    let last = c .before .before in
+    let i = last .before .before .before in
+    let w = i .before in
+    (record { whole = whole w; well = well last; room = w .before .before .before .if1 .left }, inside i)
+
 same-length-4 : tie.Need-same-length-4
 same-length-4 c = search needs
 
-returns-4 : tie.Need-returns-4
-returns-4 c =
+same-length-5 : tie.Need-same-length-5
+same-length-5 c = search needs
+
+returns-5 : tie.Need-returns-5
+returns-5 c =
     let done = c .before .before .before .before in
     let last = done .before .before .before in
-    let w = last .before .before .before in
+    let i = last .before .before .before in
+    let w = i .before in
     let long = w .before .before .before in
-    done .answer .ensures ∙ sym (agent-obeys (now (start long .args .table)) (asked long) (long .if1 .left) (whole w) (well last))
+    done .answer .ensures ∙ sym (agent-obeys (now (start long .args .table)) (asked long) (long .if1 .left) (whole w) (inside i) (well last))
 
 pub call-spec : {M : Type 1} → statement M
 call-spec =
@@ -81,10 +98,12 @@ call-spec =
     whole-slots-requires
     same-length
     returns-2
-    well-table-requires
     same-length-2
     returns-3
-    answer-requires
+    well-table-requires
     same-length-3
+    returns-4
+    answer-requires
     same-length-4
-    returns-4)
+    same-length-5
+    returns-5)

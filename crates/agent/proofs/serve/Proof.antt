@@ -33,7 +33,7 @@ install-requires : tie.Need-install-requires
 install-requires c κs =
     let told = c .before .before .before .before .before in
     let s = start (told .before .before) in
-    let w = install-within (now (s .args .frame)) (s .args .asked) (s .pre .1 .answers) _ _ _ (s .pre .1 .yes ∙ ap Yes (told .body2 .given .1)) in
+    let w = install-within (now (s .args .frame)) (s .args .asked) (s .pre .2 .answers) _ _ _ (s .pre .2 .yes ∙ ap Yes (told .body2 .given .1)) in
     (s .pre .0, record { few = w .few; some-payload = w .least; short = w .most; inside = omega (arith, w .ends) })
 
 enum-told : tie.Need-enum-told
@@ -73,7 +73,7 @@ handle-list-requires : tie.Need-handle-list-requires
 handle-list-requires c κs =
     let told = c .before .before .before in
     let s = start (told .before .before) in
-    let w = list-within (now (s .args .frame)) (s .args .asked) (s .pre .1 .answers) _ _ _ (s .pre .1 .yes ∙ ap Yes (told .body3 .given .1)) in
+    let w = list-within (now (s .args .frame)) (s .args .asked) (s .pre .2 .answers) _ _ _ (s .pre .2 .yes ∙ ap Yes (told .body3 .given .1)) in
     (record { whole = s .pre .0 .whole; well = s .pre .0 .well; room = s .pre .0 .room }, w .few, omega (arith, w .ends))
 
 enum-told-6 : tie.Need-enum-told-6
@@ -92,7 +92,7 @@ returns : tie.Need-returns
 returns c =
     let done = c .before .before .before .before in
     let told = done .before .before .before .before .before in
-    served-at (start (told .before .before) .pre .1) _ (told .body .given .1) (done .set-up .ensures)
+    served-at (start (told .before .before) .pre .2) _ (told .body .given .1) (done .set-up .ensures)
 
 same-length-3 : tie.Need-same-length-3
 same-length-3 c = search needs
@@ -104,7 +104,7 @@ returns-2 : tie.Need-returns-2
 returns-2 c =
     let done = c .before .before .before .before in
     let told = done .before .before .before .before .before .before in
-    served (start (told .before .before) .pre .1) _ (told .body2 .given .1) (omega arith) (done .install .ensures)
+    served (start (told .before .before) .pre .2) _ (told .body2 .given .1) (omega arith) (done .install .ensures)
 
 same-length-5 : tie.Need-same-length-5
 same-length-5 c = search needs
@@ -116,7 +116,7 @@ returns-3 : tie.Need-returns-3
 returns-3 c =
     let done = c .before .before .before .before in
     let told = done .before .before .before in
-    served (start (told .before .before) .pre .1) _ (told .enum-told .given .1) (omega arith) (done .retrieve .ensures)
+    served (start (told .before .before) .pre .2) _ (told .enum-told .given .1) (omega arith) (done .retrieve .ensures)
 
 same-length-7 : tie.Need-same-length-7
 same-length-7 c = search needs
@@ -128,7 +128,7 @@ returns-4 : tie.Need-returns-4
 returns-4 c =
     let done = c .before .before .before .before in
     let told = done .before .before .before in
-    served (start (told .before .before) .pre .1) _ (told .enum-told2 .given .1) (omega arith) (done .query-key .ensures)
+    served (start (told .before .before) .pre .2) _ (told .enum-told2 .given .1) (omega arith) (done .query-key .ensures)
 
 same-length-9 : tie.Need-same-length-9
 same-length-9 c = search needs
@@ -140,7 +140,7 @@ returns-5 : tie.Need-returns-5
 returns-5 c =
     let done = c .before .before .before .before in
     let told = done .before .before .before .before in
-    served (start (told .before .before) .pre .1) _ (told .enum-told3 .given .1) (omega arith) (done .enable .ensures)
+    served (start (told .before .before) .pre .2) _ (told .enum-told3 .given .1) (omega arith) (done .enable .ensures)
 
 same-length-11 : tie.Need-same-length-11
 same-length-11 c = search needs
@@ -152,7 +152,7 @@ returns-6 : tie.Need-returns-6
 returns-6 c =
     let done = c .before .before .before .before in
     let told = done .before .before .before .before in
-    served (start (told .before .before) .pre .1) _ (told .enum-told4 .given .1) (omega arith) (removed _ (done .clear .ensures))
+    served (start (told .before .before) .pre .2) _ (told .enum-told4 .given .1) (omega arith) (removed _ (done .clear .ensures))
 
 same-length-13 : tie.Need-same-length-13
 same-length-13 c = search needs
@@ -164,7 +164,7 @@ returns-7 : tie.Need-returns-7
 returns-7 c =
     let done = c .before .before .before .before in
     let told = done .before .before .before .before in
-    served (start (told .before .before) .pre .1) _ (told .enum-told5 .given .1) (omega arith) (cancelled _ (done .clear2 .ensures))
+    served (start (told .before .before) .pre .2) _ (told .enum-told5 .given .1) (omega arith) (cancelled _ (done .clear2 .ensures))
 
 same-length-15 : tie.Need-same-length-15
 same-length-15 c = search needs
@@ -179,7 +179,7 @@ returns-8 c =
     let m = told .before .before in
     let s = start m in
     let kept = list-keeps (now (s .args .table)) (bytes m) (s .pre .0 .whole) (s .pre .0 .well) _ _ in
-    served (s .pre .1) _ (told .body3 .given .1) (omega arith) (record { table-is = sym kept; reply-is = done .handle-list .ensures })
+    served (s .pre .2) _ (told .body3 .given .1) (omega arith) (record { table-is = sym kept; reply-is = done .handle-list .ensures })
 
 same-length-17 : tie.Need-same-length-17
 same-length-17 c = search needs
@@ -194,7 +194,7 @@ returns-9 c =
     let m = told .before .before in
     let s = start m in
     let kept = info-keeps (now (s .args .table)) (bytes m) (s .pre .0 .whole) (s .pre .0 .well) _ in
-    served (s .pre .1) _ (told .enum-told6 .given .1) (omega arith) (record { table-is = sym kept; reply-is = done .info .ensures })
+    served (s .pre .2) _ (told .enum-told6 .given .1) (omega arith) (record { table-is = sym kept; reply-is = done .info .ensures })
 
 pub serve-spec : {M : Type 1} → statement M
 serve-spec =

@@ -45,8 +45,8 @@ returns-2 c =
     let some = used .before .before .before in
     refused-serves (handle-used _ _ _ _ (some .if1 .left) (sym (used .before .in-use .ensures) ∙ used .if2 .taken)) (replied .reply-status2 .ensures)
 
-lowest-empty-requires : tie.Need-lowest-empty-requires
-lowest-empty-requires c κs = search needs
+first-empty-from-requires : tie.Need-first-empty-from-requires
+first-empty-from-requires c κs = search needs
 
 cast-if3 : tie.Need-cast-if3
 cast-if3 c = search needs
@@ -65,13 +65,13 @@ returns-3 c =
     let replied = c .before .before in
     let full = replied .before .before in
     let new = full .before .before .before in
-    refused-serves (no-room _ _ _ _ (new .before .before .before .if1 .left) (fresh new) _ (full .before .lowest-empty .ensures) (full .if3 .taken)) (replied .reply-status3 .ensures)
+    refused-serves (no-room _ _ _ _ (new .before .before .before .if1 .left) (fresh new) _ (full .before .first-empty-from .ensures) (full .if3 .taken)) (replied .reply-status3 .ensures)
 
 store-reservation-requires : tie.Need-store-reservation-requires
 store-reservation-requires c κs =
     let room = c .before in
     let s = start (room .before .before .before .before .before .before) in
-    has-room _ _ (s .pre) (s .args .n) _ (room .before .lowest-empty .ensures) (room .if3 .left)
+    has-room _ _ (s .pre .0) (s .args .start) (s .pre .1) (s .args .n) _ (room .before .first-empty-from .ensures) (room .if3 .left)
 
 reply-status-requires-4 : tie.Need-reply-status-requires-4
 reply-status-requires-4 c κs = search needs
@@ -87,7 +87,7 @@ returns-4 c =
     let changed = c .before .before .before .before .before .before in
     let room = changed .before .before in
     let new = room .before .before .before in
-    done-serves (sets-up _ _ _ _ (new .before .before .before .if1 .left) (fresh new) _ (room .before .lowest-empty .ensures) (room .if3 .left))
+    done-serves (sets-up _ _ _ _ (new .before .before .before .if1 .left) (fresh new) _ (room .before .first-empty-from .ensures) (room .if3 .left))
     (changed .store-reservation .ensures) (c .before .before .reply-status4 .ensures)
 
 pub set-up-spec : {M : Type 1} → statement M
@@ -102,7 +102,7 @@ set-up-spec =
     same-length-2
     same-length-3
     returns-2
-    lowest-empty-requires
+    first-empty-from-requires
     cast-if3
     reply-status-requires-3
     same-length-4
