@@ -1,16 +1,17 @@
 -- From the frame's reading to the profile's agent: one law for each step of the call.
 use Prim.Native.Nat.{ℕ, _<_}
-use mathlib.Core.Path.{_≡_, refl, sym, ap, ap₂, _∙_}
+use mathlib.Core.Path.{_≡_, sym, ap, ap₂, _∙_}
 use mathlib.Core.List.{List}
 use native.Mathlib.Omega.{arith}
 use Rattle.profile.specs.Bytes.{Bytes}
 use Rattle.profile.specs.Slot.{Slot}
 use Rattle.profile.specs.Table.{slotsOf}
 use Rattle.profile.specs.Frame.{kindNumber}
-use Rattle.profile.specs.Request.{Request, setup, install, retrieve, rek, enable, remove, cancel, list, info, Read, asks, numberOf, readRequest}
-use Rattle.profile.specs.Agent.{Outcome, act, obey, onBytes}
+use Rattle.profile.specs.Request.{Read, asks, numberOf, readRequest}
+use Rattle.profile.specs.Agent.{Outcome, obey, onBytes}
 use Rattle.profile.proofs.Frames.{Reads, reads}
 use Rattle.profile.proofs.Requests.{kind-number}
+use Rattle.profile.proofs.Starts.{slot-unused}
 use Rattle.request_reader.specs.declared.asked.Why.{Why}
 use Rattle.request_reader.specs.declared.asked.Body.{Body}
 use Rattle.request_reader.specs.declared.asked.Ask.the-variants.{No}
@@ -29,19 +30,6 @@ pub refusal-obeys : (f : Bytes) (w : Why) (buffer : Bytes) (n : ℕ) (buffer' : 
     → (free : ℕ) (t : List Slot) (table : Bytes) → outcome n buffer' table ≡ onBytes (kindNumber f) (obey (readRequest f) free t) table buffer
 refusal-obeys f w buffer n buffer' s e free t table = s .on-any free t table ∙ ap (λ (r : Read). onBytes (kindNumber f) (obey r free t) table buffer) e
 
--- ---- kinds 2 to 9 take no free slot: which one a setup would take changes nothing
-pub slot-unused : (i j : ℕ) (t : List Slot) (q : Request) → 1 < numberOf q → act i t q ≡ act j t q
-unfolding act
-slot-unused i j t (setup h n) l = absurd (omega arith)
-slot-unused i j t (install h r) l = refl
-slot-unused i j t (retrieve h k) l = refl
-slot-unused i j t (rek h k) l = refl
-slot-unused i j t (enable h c) l = refl
-slot-unused i j t (remove h) l = refl
-slot-unused i j t (cancel h) l = refl
-slot-unused i j t (list limit q) l = refl
-slot-unused i j t (info h) l = refl
-
 -- ---- a request
 module _ {f : Bytes} {r : Asked} {b : Body} (a : Asks f r b) where
   pub reads-as : readRequest f ≡ asks (bodyMeans f b r)
@@ -59,10 +47,10 @@ module _ {f : Bytes} {r : Asked} {b : Body} (a : Asks f r b) where
         → Serves (kindNumber f) (answerAt free table (bodyMeans f b r)) table buffer table' buffer'
     served-at s = rw (← kind-is, e) s
 
-    -- kinds 2 to 9
+    -- kinds 2 to 9, which take no free slot
     pub served : 1 < numberOf (bodyMeans f x r) → Serves (numberOf (bodyMeans f x r)) (answerTo table (bodyMeans f x r)) table buffer table' buffer'
         → Serves (kindNumber f) (answerAt free table (bodyMeans f b r)) table buffer table' buffer'
-    served l s = served-at (rw (slot-unused free 0 (slotsOf table) (bodyMeans f x r) l) s)
+    served l s = served-at (rw (slot-unused free 0 (slotsOf table) (bodyMeans f x r) (λ h n q. absurd (omega (arith, l, ap numberOf q)))) s)
 
   pub obeys : (free : ℕ) {table buffer table' buffer' : Bytes} → Serves (kindNumber f) (answerAt free table (bodyMeans f b r)) table buffer table' buffer'
       → outcome 0 buffer' table' ≡ onBytes (kindNumber f) (obey (readRequest f) free (slotsOf table)) table buffer

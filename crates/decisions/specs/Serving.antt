@@ -19,7 +19,7 @@ pub record Ready (table buffer : Bytes) : Type 0 where
 abbrev pub answerAt : ℕ → Bytes → Request → Answer
 answerAt free table q = act free (slotsOf table) q
 
--- the same for kinds 2 to 9, which take no free slot: it is their answer whatever `free` is (`slot-unused`, crates/agent/proofs/Steps.antt)
+-- the same for kinds 2 to 9, which take no free slot: it is their answer whatever `free` is (`slot-unused`, crates/profile/proofs/Starts.antt)
 abbrev pub answerTo : Bytes → Request → Answer
 answerTo table q = answerAt 0 table q
 

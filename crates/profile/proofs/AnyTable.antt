@@ -41,7 +41,7 @@ past-setups [] b c o = refl
 past-setups (x ∷ a) [] c o = refl
 past-setups (x ∷ a) (y ∷ b) c o = absurd (omega (arith, o, length-append a (y ∷ (b ++ c))))
 
-fewer : (h : Bytes) (s : Slot) (t : List Slot) → length (underSlots h (s ∷ t)) ≤ 1 → length (underSlots h t) ≤ 1
+pub fewer : (h : Bytes) (s : Slot) (t : List Slot) → length (underSlots h (s ∷ t)) ≤ 1 → length (underSlots h t) ≤ 1
 fewer h s t o = omega (arith, o, length-append (underSlot h s) (underSlots h t))
 
 right-first : (h : Bytes) (s : Slot) (t : List Slot) → length (underSlots h (s ∷ t)) ≤ 1 → underSlots h t ≡ underLedger h (ledgerOf t)
@@ -75,16 +75,19 @@ module _ (table : Bytes) (bytes : Bytes256 table) (whole : wholeSlots table ≡ 
       rw (count-slots table whole well)
       (from-1-to-says 15 (slotCount table) (and-parts (eqb (length table % slotSize) 0) (from1to 15 (slotCount table)) whole .1) .0)
 
-  pub sound-table : Sound (ledgerOf (slotsOf table)) table
-  sound-table =
+  pub sound-by : (l : Ledger) → Agrees l (slotsOf table) → Sound l table
+  sound-by l a =
       record {
         slots = slotsOf table;
         packed = sym (table-slots table bytes whole well);
         fits = table-fits table whole well;
         some-slots = some-slots;
         few-slots = few-slots table whole well;
-        agrees = table-agrees (slotsOf table) (table-distinct table whole well);
+        agrees = a;
       }
+
+  pub sound-table : Sound (ledgerOf (slotsOf table)) table
+  sound-table = sound-by (ledgerOf (slotsOf table)) (table-agrees (slotsOf table) (table-distinct table whole well))
 
   -- A table after every answer is whole and well formed.
   pub stays-well : (c : Call) → (wholeSlots (agent table c .table) ≡ true) × (wellTable (agent table c .table) ≡ true)

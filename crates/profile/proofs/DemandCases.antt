@@ -26,7 +26,7 @@ slotNumber (taken h (reserved n)) = 1
 slotNumber (taken h (enabled r)) = 2
 slotNumber (taken h (disabled r)) = 3
 
-in-one : {A : Type 0} (x y : A) → In x (y ∷ []) → y ≡ x
+pub in-one : {A : Type 0} (x y : A) → In x (y ∷ []) → y ≡ x
 in-one x y m = at (m .0) (m .1)
   where
     at : (i : ℕ) → getElem? (y ∷ []) i ≡ some x → y ≡ x

@@ -8,7 +8,7 @@ use mathlib.Core.Bool.{Bool, true, false}
 use native.Mathlib.Omega.{arith}
 use lib.Dec.{ltb, lt→ltb}
 use lib.ListN.{length, take, drop, getElem?, length-take, length-drop}
-use Rattle.profile.specs.Bytes.{Bytes, if_then_else_}
+use Rattle.profile.specs.Bytes.{Bytes}
 use Rattle.profile.specs.Slot.{Entry, Slot, empty, taken}
 use Rattle.profile.specs.Agent.{lowestEmpty, firstEmptyFrom}
 use Rattle.profile.specs.Laws.{onward, Full, FirstEmpty}

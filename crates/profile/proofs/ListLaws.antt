@@ -1,7 +1,7 @@
 -- The laws of kind 8 hold (PROFILE 5.8): the handles listed are those asked for, in slot order, as many as the limit lets; and no other list meets them.
 use Prim.Native.Nat.{ℕ, zero, suc, _+_, _*_, _/_, _≤_, _<_, min}
 use mathlib.Core.Path.{_≡_, refl, sym, ap, _∙_}
-use mathlib.Core.Logic.{inl, inr}
+use mathlib.Core.Logic.{_↔_, inl, inr}
 use mathlib.Core.List.{List, [], _∷_, _++_, cons≢nil}
 use mathlib.Core.Option.{Option, some, Option·some-injective}
 use mathlib.Core.Bool.{Bool, true, false, true≢false, false≢true}
@@ -114,6 +114,9 @@ module _ {q : List Bytes} where
   in-shown (is-reserved o) h r w (suc i) p = in-shown o h r w i p
   in-shown (is-empty o) h r w zero p = absurd (enabled-there empty h r p)
   in-shown (is-empty o) h r w (suc i) p = in-shown o h r w i p
+
+pub listed-exact : (q : List Bytes) (t : List Slot) (h : Bytes) → In h (listed q t) ↔ Shown q t h
+listed-exact q t h = (shown-in (ordered q t) h, λ w. in-shown (ordered q t) h (w .right) (w .asked) (w .slot) (w .stands))
 
 -- ---- the limit
 no-bytes : (n : ℕ) (hs : List Bytes) → n ≡ length hs → drop n hs ≡ []
@@ -234,7 +237,7 @@ lists-exactly free t limit q = (
   record {
     all = listed q t;
     ordered = ordered q t;
-    exact = λ h. (shown-in (ordered q t) h, λ w. in-shown (ordered q t) h (w .right) (w .asked) (w .slot) (w .stands));
+    exact = listed-exact q t;
     limited = within limit (listed q t);
   },
 )

@@ -1,12 +1,12 @@
 -- PROFILE 8.3, record by record, from the agreement handle by handle.
-use Prim.Native.Nat.{ℕ, zero, suc}
+use Prim.Native.Nat.{ℕ, zero, suc, _≤_}
 use mathlib.Core.Path.{_≡_, refl, sym, ap, _∙_, subst}
 use mathlib.Core.Logic.{_⊎_, inl, inr}
 use mathlib.Core.List.{List, [], _∷_, map}
 use mathlib.Core.List.{List·Memᴰ, List·Memᴰ·head, List·Memᴰ·append-cases, List·Memᴰ·eq-of-singleton, List·Memᴰ·not-nil, Memᴰ·append-left, Memᴰ·append-right}
 use mathlib.Core.Bool.{true}
 use mathlib.Core.Option.{Option, some, Option·some-injective}
-use lib.ListN.{getElem?}
+use lib.ListN.{length, getElem?}
 use Rattle.profile.specs.Bytes.{Bytes, joined, In}
 use Rattle.profile.specs.Slot.{Right, Entry, reserved, enabled, disabled, Slot, empty, taken, distinct}
 use Rattle.profile.specs.History.{Ledger, Opened, open-setup, Owned, forUse, lent, gone}
@@ -84,28 +84,29 @@ no-reserved h (lent k r) n m = split h k
     (λ q. List·Memᴰ·not-nil (rw q at m))
 no-reserved h (gone r) n m = List·Memᴰ·not-nil m
 
-module _ (l : Ledger) (t : List Slot) (a : Agrees l t) (d : distinct t ≡ true) where
-  -- a record that stands is the one under its handle
-  only-there : (h : Bytes) (e : Entry) → In (taken h e) t → underSlots h t ≡ e ∷ []
-  only-there h e i = only-one e (underSlots h t) (a .once h) (gathered-in (underSlot h) t e (taken h e) i (under-taken h e))
+-- a record that stands is the one under its handle
+module _ (t : List Slot) (h : Bytes) (e : Entry) where
+  pub only-there : length (underSlots h t) ≤ 1 → In (taken h e) t → underSlots h t ≡ e ∷ []
+  only-there o i = only-one e (underSlots h t) o (gathered-in (underSlot h) t e (taken h e) i (under-taken h e))
 
-  there-only : (h : Bytes) (e : Entry) → underSlots h t ≡ e ∷ [] → In (taken h e) t
-  there-only h e p =
+  pub there-only : underSlots h t ≡ e ∷ [] → In (taken h e) t
+  there-only p =
       let r = gathered-from (underSlot h) t e (rw p (List·Memᴰ·head refl)) in
       rw (← (taken-under h (r .0) e (r .2))) (r .1)
 
+module _ (l : Ledger) (t : List Slot) (a : Agrees l t) (d : distinct t ≡ true) where
   used-right : (h : Bytes) (r : Right) → In (taken h (enabled r)) t → In (forUse h r) (l .rights)
   used-right h r i =
-      let z = mirrors l t a .righted h (enabled r) tt (only-there h (enabled r) i) in
+      let z = mirrors l t a .righted h (enabled r) tt (only-there t h (enabled r) (a .once h) i) in
       (z .0, z .2 ∙ ap {B = Option Owned} some (used-stands (z .3)))
 
   lent-right : (h : Bytes) (r : Right) → In (taken h (disabled r)) t → In (lent h r) (l .rights)
   lent-right h r i =
-      let z = mirrors l t a .righted h (disabled r) tt (only-there h (disabled r) i) in
+      let z = mirrors l t a .righted h (disabled r) tt (only-there t h (disabled r) (a .once h) i) in
       (z .0, z .2 ∙ ap {B = Option Owned} some (lent-stands (z .3)))
 
   awaited-setup : (h : Bytes) (n : ℕ) → In (taken h (reserved n)) t → In (open-setup h n) (l .setups)
-  awaited-setup h n i = go (List·Memᴰ·append-cases (joined (map (underSetup h) (l .setups))) (rw (sym (a .each h) ∙ only-there h (reserved n) i) (List·Memᴰ·head refl)))
+  awaited-setup h n i = go (List·Memᴰ·append-cases (joined (map (underSetup h) (l .setups))) (rw (sym (a .each h) ∙ only-there t h (reserved n) (a .once h) i) (List·Memᴰ·head refl)))
     where
       go : List·Memᴰ (reserved n) (joined (map (underSetup h) (l .setups))) ⊎ List·Memᴰ (reserved n) (joined (map (underRight h) (l .rights))) → In (open-setup h n) (l .setups)
       go (inl w) =
@@ -117,15 +118,15 @@ module _ (l : Ledger) (t : List Slot) (a : Agrees l t) (d : distinct t ≡ true)
 
   setup-awaited : (h : Bytes) (n : ℕ) → In (open-setup h n) (l .setups) → In (taken h (reserved n)) t
   setup-awaited h n i =
-      there-only h (reserved n)
+      there-only t h (reserved n)
       (only-one (reserved n) (underSlots h t) (a .once h)
       (rw (a .each h) (Memᴰ·append-left (joined (map (underRight h) (l .rights))) (gathered-in (underSetup h) (l .setups) (reserved n) (open-setup h n) i (under-open h n)))))
 
   pub records : Records l t
   records =
       record {
-        used = λ h r. (used-right h r, λ i. there-only h (enabled r) (mirrors l t a .recorded (i .0) (forUse h r) h (enabled r) (i .1) for-use));
-        away = λ h r. (lent-right h r, λ i. there-only h (disabled r) (mirrors l t a .recorded (i .0) (lent h r) h (disabled r) (i .1) is-lent));
+        used = λ h r. (used-right h r, λ i. there-only t h (enabled r) (mirrors l t a .recorded (i .0) (forUse h r) h (enabled r) (i .1) for-use));
+        away = λ h r. (lent-right h r, λ i. there-only t h (disabled r) (mirrors l t a .recorded (i .0) (lent h r) h (disabled r) (i .1) is-lent));
         awaited = λ h n. (awaited-setup h n, setup-awaited h n);
         apart = apart t d;
       }

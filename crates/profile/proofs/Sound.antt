@@ -8,15 +8,15 @@ use native.Mathlib.Omega.{arith}
 use lib.ListN.{length, replicate, length-replicate, replicate-append-replicate}
 use Rattle.profile.specs.Bytes.{Bytes, zeros}
 use Rattle.profile.specs.Slot.{Slot, empty, TableFits}
-use Rattle.profile.specs.Table.{slotsOf, tableOf, wholeSlots, wellTable, pack}
+use Rattle.profile.specs.Table.{slotCount, slotsOf, tableOf, wholeSlots, wellTable, pack}
 use Rattle.profile.specs.Agent.{Call, Outcome, agent}
 use Rattle.profile.specs.History.{Ledger, blankLedger, Exchange, history}
 use Rattle.profile.specs.Run.{Agrees, exchangeOf, exchanges, tableThen, blankTable, ledgerThen}
-use Rattle.profile.proofs.Tables.{slots-table, well-table, whole-table}
+use Rattle.profile.proofs.Tables.{slot-count, slots-table, well-table, whole-table}
 use Rattle.profile.proofs.Requests.{read-fits}
 use Rattle.profile.proofs.Agreement.{kept, blank-agrees}
 use Rattle.profile.proofs.Fitting.{fitting, blank-fits}
-use Rattle.profile.proofs.Calls.{Comes, comes, failed-history, history-append}
+use Rattle.profile.proofs.Calls.{Succeeds, Comes, comes, failed-history, history-append}
 
 -- the table is one of packed slots, which agree with the ledger
 pub record Sound (l : Ledger) (table : Bytes) : Type 0 where
@@ -32,10 +32,13 @@ pub sound-comes : (l : Ledger) (table : Bytes) (s : Sound l table) (c : Call) �
 sound-comes l table s c = rw (s .packed) (comes (s .slots) (s .fits) c)
 
 module _ (l : Ledger) (table : Bytes) (s : Sound l table) where
+  comes-fits : (c : Call) {xs : List Exchange} {o : Outcome} (d : Succeeds (s .slots) c xs o) → TableFits (d .slots) × (length (d .slots) ≡ length (s .slots))
+  comes-fits c d = fitting (s .slots) (s .fits) (d .free) (d .asked) (read-fits (c .request) (d .asked) (d .read)) (d .given) (d .slots) (d .does)
+
   sound-end : (c : Call) (xs : List Exchange) (o : Outcome) → Comes (s .slots) c xs o → Sound (history l xs) (o .table)
   sound-end c xs o (inl i) = rw (failed-history l xs (i .failed), i .after, ← (s .packed)) s
   sound-end c xs o (inr d) =
-      let f = fitting (s .slots) (s .fits) (d .free) (d .asked) (read-fits (c .request) (d .asked) (d .read)) (d .given) (d .slots) (d .does) in
+      let f = comes-fits c d in
       rw (d .told)
       (record {
         slots = d .slots;
@@ -48,6 +51,16 @@ module _ (l : Ledger) (table : Bytes) (s : Sound l table) where
 
 pub sound-call : (l : Ledger) (table : Bytes) → Sound l table → (c : Call) → Sound (history l (exchangeOf table c)) (agent table c .table)
 sound-call l table s c = sound-end l table s c (exchangeOf table c) (agent table c) (sound-comes l table s c)
+
+-- a call keeps the number of slots
+pub sound-count : (l : Ledger) (table : Bytes) → Sound l table → (c : Call) → slotCount (agent table c .table) ≡ slotCount table
+sound-count l table s c = go (agent table c) (sound-comes l table s c)
+  where
+    go : {xs : List Exchange} (o : Outcome) → Comes (s .slots) c xs o → slotCount (o .table) ≡ slotCount table
+    go o (inl i) = ap slotCount (i .after ∙ sym (s .packed))
+    go o (inr d) =
+        let f = comes-fits l table s c d in
+        ap slotCount (d .after) ∙ slot-count (d .slots) (f .0) ∙ f .1 ∙ sym (slot-count (s .slots) (s .fits)) ∙ ap slotCount (sym (s .packed))
 
 pub sound-run : (l : Ledger) (table : Bytes) → Sound l table → (cs : List Call) → Sound (history l (exchanges table cs)) (tableThen table cs)
 sound-run l table s [] = s

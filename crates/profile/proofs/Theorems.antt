@@ -35,7 +35,9 @@ use Rattle.profile.proofs.ListingCases.{listings-hold}
 use Rattle.profile.proofs.HistoryCases.{histories-hold}
 use Rattle.profile.proofs.SizeCases.{sizes-hold}
 use Rattle.profile.proofs.DemandCases.{demands-hold}
+use Rattle.profile.proofs.StartCases.{starts-hold}
 use Rattle.profile.proofs.Demand3.{demand-3}
+use Rattle.profile.proofs.Starts.{only-setups, same-call, same-run, same-ledger}
 
 packs : (t : List Slot) → TableFits t → distinct t ≡ true → 1 ≤ length t → length t ≤ 15 → Packs t
 packs t f d some few =
@@ -91,5 +93,10 @@ theorems =
       listings-hold = listings-hold;
       histories-hold = histories-hold;
       demands-hold = demands-hold;
+      starts-hold = starts-hold;
       demand-3 = demand-3;
+      only-setups = only-setups;
+      same-call = same-call;
+      same-run = same-run;
+      same-ledger = same-ledger;
     }

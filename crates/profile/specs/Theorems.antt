@@ -29,7 +29,10 @@ use Rattle.profile.specs.ReplyCases
 use Rattle.profile.specs.ListingCases
 use Rattle.profile.specs.HistoryCases
 use Rattle.profile.specs.DemandCases
+use Rattle.profile.specs.StartCases
 use Rattle.profile.specs.Demand3.{Demand3}
+use Rattle.profile.specs.Starts.{AlikeButPlaces, OtherStart, OtherStarts, SameCall, SameRun}
+use Rattle.profile.specs.Run.{ledgerThen}
 use Rattle.profile.specs.Laws.{Apart, Refuses, AStatus, FoundIs, Full, FirstEmpty, SetsFirst, ListsExactly}
 
 -- ---- the words of the theorems below
@@ -139,5 +142,12 @@ pub record Theorems : Type 0 where
   pub listings-hold : ListingCases.Hold
   pub histories-hold : HistoryCases.Hold
   pub demands-hold : DemandCases.Hold
+  pub starts-hold : StartCases.Hold
   -- PROFILE 8.3, of every table of 1 to 15 slots and every sequence of calls
   pub demand-3 : (n : ℕ) → 1 ≤ n → n ≤ 15 → (cs : List Call) → Demand3 n cs
+  -- PROFILE 8.4: only a setup depends on the start at all, and of it only the slot: calls and sequences of calls that differ in their starts alone, on tables
+  -- that hold the same records, are alike; so from an all-zero table the ledger is the same
+  pub only-setups : (table : Bytes) (c d : Call) → OtherStart (slotCount table) c d → ((h : Bytes) (n : ℕ) → readRequest (c .request) ≡ asks (setup h n) → ⊥) → agent table c ≡ agent table d
+  pub same-call : (table other : Bytes) → AlikeButPlaces table other → (c d : Call) → OtherStart (slotCount table) c d → SameCall table other c d
+  pub same-run : (table other : Bytes) → AlikeButPlaces table other → (cs ds : List Call) → OtherStarts (slotCount table) cs ds → SameRun table other cs ds
+  pub same-ledger : (n : ℕ) → 1 ≤ n → n ≤ 15 → (cs ds : List Call) → OtherStarts n cs ds → ledgerThen n cs ≡ ledgerThen n ds

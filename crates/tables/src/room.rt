@@ -35,5 +35,5 @@ pub fn first_empty_from(t: &[u8], start: usize) -> usize
         }
         k += 1;
     }
-    n
+    n // every slot is taken
 }
