@@ -1,11 +1,11 @@
 /* Calls the functions of libcavernlull.a as commands on standard input tell it, and writes the outcomes to standard output.
  *
- * A command is one byte and its arguments. Numbers have 32 bits, the low byte first. A string is its length, as a number,
- * and its bytes.
+ * A command is one byte and its arguments. Numbers have 32 bits, the low byte first; a start has 64, in the same order. A
+ * string is its length, as a number, and its bytes.
  *
  *   command  arguments                                           answer
  *   t        string table                                        none: the table that is lent from here on
- *   c        strings frame, reply                                number, strings reply and table, as cavernlull_call left them
+ *   c        start, strings frame, reply                         number, strings reply and table, as cavernlull_call left them
  *   w        numbers kind, room, count, kept, limit; strings     number, string out, as cavernlull_write_request left it
  *            handle, new handle, key, hashes, payload, out
  *   r        strings frame, key, fields (22 bytes)               number, strings key and fields, as cavernlull_read_reply
@@ -99,6 +99,11 @@ static uint32_t take_number(void) {
     return (uint32_t)b[0] | (uint32_t)b[1] << 8 | (uint32_t)b[2] << 16 | (uint32_t)b[3] << 24;
 }
 
+static size_t take_start(void) {
+    size_t low = take_number();
+    return low | (size_t)take_number() << 32;
+}
+
 static void give_number(uint32_t n) {
     uint8_t b[4] = {(uint8_t)n, (uint8_t)(n >> 8), (uint8_t)(n >> 16), (uint8_t)(n >> 24)};
     give(b, 4);
@@ -148,9 +153,10 @@ static struct area table_area, areas[6];
 static struct lent table = {table_area.wall, 0};
 
 static void call(void) {
+    size_t start = take_start();
     struct lent frame = take_string(&areas[0]);
     struct lent reply = take_string(&areas[1]);
-    give_number(cavernlull_call(table.at, table.length, frame.at, frame.length, reply.at, reply.length));
+    give_number(cavernlull_call(table.at, table.length, start, frame.at, frame.length, reply.at, reply.length));
     give_string(reply);
     give_string(table);
 }

@@ -112,13 +112,15 @@ impl Commands {
         self.string(table)
     }
 
-    /// Has `cavernlull_call` called; the answer is a [`Call`].
+    /// Has `cavernlull_call` called with this start; the answer is a
+    /// [`Call`].
     ///
     /// # Errors
     ///
     /// Where the driver has ended.
-    pub fn call(&mut self, frame: &[u8], reply: &[u8]) -> Result<()> {
+    pub fn call(&mut self, start: u64, frame: &[u8], reply: &[u8]) -> Result<()> {
         self.0.write_all(b"c")?;
+        self.0.write_all(&start.to_le_bytes())?;
         self.string(frame)?;
         self.string(reply)
     }
