@@ -20,10 +20,10 @@ extern "C" {
 #endif
 
 /* The version of the library. */
-#define CAVERNLULL_VERSION_MAJOR 3
+#define CAVERNLULL_VERSION_MAJOR 4
 #define CAVERNLULL_VERSION_MINOR 0
 #define CAVERNLULL_VERSION_PATCH 0
-#define CAVERNLULL_VERSION "3.0.0"
+#define CAVERNLULL_VERSION "4.0.0"
 
 /* Sizes in bytes, and the most slots and hashes (PROFILE 1.3). */
 enum {
@@ -45,6 +45,7 @@ enum {
     CAVERNLULL_TABLE_LENGTH = 102,
     CAVERNLULL_TABLE_NOT_WELL_FORMED = 103,
     CAVERNLULL_NO_FRAME = 104,
+    CAVERNLULL_START_OUTSIDE = 105,
     CAVERNLULL_WRITER_BUFFER_SHORT = 201,
     CAVERNLULL_WRITER_FIELDS = 202,
     CAVERNLULL_NO_REPLY = 203
@@ -89,18 +90,26 @@ enum {
  * Before the call, the front end has checked the frame's MAC, put its verdict into the highest bit of the frame's second byte,
  * and decrypted the fields.
  *
+ * `start` is a slot, counted from 0. An Installation Setup looks for an empty slot from there upward and, after the last slot,
+ * from slot 0 up to the slot before `start`. It takes the first that is empty, and finds none only where every slot is taken.
+ * No other kind uses `start`, but every call must have one that is below the number of slots. A caller who does not mind where
+ * a record lands passes 0. One who wants all slots to wear alike keeps a number with the card, which is 0 at first, passes it
+ * with each call, and after each successful setup makes it the slot after the one taken, or 0 after the last slot. The slot
+ * taken is the one whose byte 0 is not 0 and whose bytes 1 to 10 are the setup's handle.
+ *
  * Returns 0 when it has written the reply at the start of `reply` and changed the table as the request asks. The reply's length
  * is 4 plus the 16-bit number, high byte first, in its third and fourth bytes; the bytes after it keep what they held.
  *
  * Otherwise returns the first of these numbers that applies, and changes neither `table` nor `reply`:
  *   101 CAVERNLULL_REPLY_BUFFER_SHORT     the reply buffer has fewer than 4,279 bytes
  *   102 CAVERNLULL_TABLE_LENGTH           the table is not 1 to 15 slots of 4,288 bytes
+ *   105 CAVERNLULL_START_OUTSIDE          `start` is not below the number of slots, whatever the frame
  *   103 CAVERNLULL_TABLE_NOT_WELL_FORMED  a slot is not well formed, by a count without its bit for example, or two records
  *                                         have the same handle
  *   104 CAVERNLULL_NO_FRAME               the frame has fewer than 4 bytes, or is not 4 plus its body length long
  * Where the card refuses to carry out the request, the call returns 0, with a reply whose status is not 0.
  */
-uint16_t cavernlull_call(uint8_t *table, size_t table_length, const uint8_t *frame, size_t frame_length,
+uint16_t cavernlull_call(uint8_t *table, size_t table_length, size_t start, const uint8_t *frame, size_t frame_length,
                          uint8_t *reply, size_t reply_length);
 
 /* The device's request writer (PROFILE 6.2): writes the request frame of a kind and its fields at the start of `out`, with

@@ -73,6 +73,7 @@ fn errors_are_those_of_the_header() {
             CallError::TableNotWellFormed.number(),
         ),
         ("NO_FRAME", CallError::NoFrame.number()),
+        ("START_OUTSIDE", CallError::StartOutside.number()),
         ("WRITER_BUFFER_SHORT", WriteError::BufferShort.number()),
         ("WRITER_FIELDS", WriteError::Fields.number()),
         ("NO_REPLY", ReadError.number()),
