@@ -3,8 +3,8 @@
 mod common;
 
 use common::{
-    blank, body_bytes, call, call_for, frame_bytes, mixed_table, request_bytes, right, setup,
-    OwnFields, FILLER,
+    about, blank, body_bytes, call, call_for, frame_bytes, lending, mixed_table, request_bytes,
+    returning, right, setup, OwnFields, FILLER,
 };
 use reference::ReadRequest::{Refused, Request};
 use reference::{read_reply, read_request, slot, table, write_request};
@@ -21,27 +21,6 @@ const COUNTS: [Count; 7] = [
     Kept(0x8000),
     Kept(0xFFFF),
 ];
-
-fn about(handle: u8) -> OwnFields {
-    OwnFields {
-        handle: [handle; 10],
-        ..OwnFields::default()
-    }
-}
-
-fn lending(from: u8, to: u8) -> OwnFields {
-    OwnFields {
-        new_handle: [to; 10],
-        ..about(from)
-    }
-}
-
-fn returning(handle: u8, count: Count) -> OwnFields {
-    OwnFields {
-        count,
-        ..about(handle)
-    }
-}
 
 fn installing(handle: u8, count: Count) -> OwnFields {
     OwnFields {

@@ -2,7 +2,9 @@
 
 mod common;
 
-use common::{frame_bytes, mixed_table, right, setup, uncounted, OwnFields};
+use common::{
+    about, frame_bytes, lending, mixed_table, returning, right, setup, uncounted, OwnFields,
+};
 use reference::ledger::{agrees, Ledger, Right, Setup, Standing};
 use reference::{read_request, Count, ReadRequest, SLOT_BYTES};
 
@@ -18,27 +20,6 @@ fn ledger_of(history: &[(u8, OwnFields, u8)]) -> Ledger {
         };
         (request, *status)
     }))
-}
-
-fn about(handle: u8) -> OwnFields {
-    OwnFields {
-        handle: [handle; 10],
-        ..OwnFields::default()
-    }
-}
-
-fn lending(from: u8, to: u8) -> OwnFields {
-    OwnFields {
-        new_handle: [to; 10],
-        ..about(from)
-    }
-}
-
-fn returning(from: u8, count: Count) -> OwnFields {
-    OwnFields {
-        count,
-        ..about(from)
-    }
 }
 
 /// A right that was installed with these fields.

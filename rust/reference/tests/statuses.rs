@@ -4,7 +4,8 @@
 mod common;
 
 use common::{
-    blank, body_bytes, call, call_for, mixed_table, request_bytes, right, setup, OwnFields,
+    about, blank, body_bytes, call, call_for, lending, mixed_table, request_bytes, returning,
+    right, setup, OwnFields,
 };
 use reference::{read_reply, slot, table, Count, SLOT_BYTES};
 use Count::Kept;
@@ -15,27 +16,6 @@ const RESERVED: u8 = 2;
 const DISABLED: u8 = 5;
 const SECOND_ENABLED: u8 = 4;
 const ABSENT: u8 = 9;
-
-fn handle(handle: u8) -> OwnFields {
-    OwnFields {
-        handle: [handle; 10],
-        ..OwnFields::default()
-    }
-}
-
-fn lending(from: u8, to: u8) -> OwnFields {
-    OwnFields {
-        new_handle: [to; 10],
-        ..handle(from)
-    }
-}
-
-fn returning(from: u8, count: Count) -> OwnFields {
-    OwnFields {
-        count,
-        ..handle(from)
-    }
-}
 
 /// The status of each request on the mixed table; any but 0 changes nothing.
 #[test]
@@ -53,7 +33,7 @@ fn statuses_of_requests_about_a_mixed_table() {
         (1, setup(ABSENT, 4097), 7),
         // the handle of zeros is in no slot, though an empty one is zero
         (1, setup(0, 1), 0),
-        (6, handle(0), 4),
+        (6, about(0), 4),
         // 4 before 6 before 7
         (2, right(ABSENT, 0, 4096), 4),
         (2, right(ENABLED, 0, 4096), 6),
@@ -83,18 +63,18 @@ fn statuses_of_requests_about_a_mixed_table() {
         (5, returning(RESERVED, Kept(1)), 6),
         (5, returning(ENABLED, Kept(1)), 0),
         (5, returning(DISABLED, Kept(1)), 0),
-        (6, handle(ABSENT), 4),
-        (6, handle(RESERVED), 6),
-        (6, handle(ENABLED), 0),
-        (6, handle(DISABLED), 0),
-        (7, handle(ABSENT), 4),
-        (7, handle(ENABLED), 6),
-        (7, handle(DISABLED), 6),
-        (7, handle(RESERVED), 0),
-        (9, handle(ABSENT), 4),
-        (9, handle(RESERVED), 6),
-        (9, handle(DISABLED), 6),
-        (9, handle(ENABLED), 0),
+        (6, about(ABSENT), 4),
+        (6, about(RESERVED), 6),
+        (6, about(ENABLED), 0),
+        (6, about(DISABLED), 0),
+        (7, about(ABSENT), 4),
+        (7, about(ENABLED), 6),
+        (7, about(DISABLED), 6),
+        (7, about(RESERVED), 0),
+        (9, about(ABSENT), 4),
+        (9, about(RESERVED), 6),
+        (9, about(DISABLED), 6),
+        (9, about(ENABLED), 0),
     ];
     for (kind, fields, status) in rows {
         let before = mixed_table();
@@ -169,11 +149,11 @@ fn successes_change_these_bytes_and_no_other() {
             }),
         ),
         (5, returning(ENABLED, Kept(0x0A0B)), mixed_table()),
-        (6, handle(ENABLED), with_slot(0, |slot| slot.fill(0))),
-        (6, handle(DISABLED), with_slot(2, |slot| slot.fill(0))),
-        (7, handle(RESERVED), with_slot(1, |slot| slot.fill(0))),
+        (6, about(ENABLED), with_slot(0, |slot| slot.fill(0))),
+        (6, about(DISABLED), with_slot(2, |slot| slot.fill(0))),
+        (7, about(RESERVED), with_slot(1, |slot| slot.fill(0))),
         (8, OwnFields::default(), mixed_table()),
-        (9, handle(ENABLED), mixed_table()),
+        (9, about(ENABLED), mixed_table()),
     ];
     for (kind, fields, expected) in rows {
         let mut table = mixed_table();
@@ -196,7 +176,7 @@ fn bodies_of_successes() {
         (
             9,
             0x80,
-            handle(ENABLED),
+            about(ENABLED),
             [&one.count.number().to_be_bytes()[..], &one.payload].concat(),
         ),
     ];
@@ -298,7 +278,7 @@ fn verdict_0_is_1_for_kinds_1_to_7_before_any_look_at_the_table() {
             1 => setup(ENABLED, 0),
             2 => right(ABSENT, 0, 4096),
             8 => OwnFields::default(),
-            _ => handle(ENABLED),
+            _ => about(ENABLED),
         };
         let frame = request_bytes(kind, 0, &body_bytes(kind, &fields));
         let mut table = mixed_table();

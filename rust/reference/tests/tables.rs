@@ -2,7 +2,7 @@
 
 mod common;
 
-use common::{blank, call, call_for, mixed_table, setup, OwnFields, FILLER};
+use common::{about, blank, call, call_for, mixed_table, setup, FILLER};
 use reference::slot::{self, Place};
 use reference::{listing, table, well_formed, Count};
 use reference::{HASH_BYTES, MAX_SLOTS, REPLY_ROOM, SLOT_BYTES};
@@ -225,11 +225,7 @@ fn numbers_are_tested_in_order() {
 #[test]
 fn a_buffer_of_4279_bytes_takes_the_longest_reply() {
     let mut table = mixed_table();
-    let enable = OwnFields {
-        handle: [5; 10],
-        ..OwnFields::default()
-    };
-    call_for(0, &mut table, 5, &enable);
+    call_for(0, &mut table, 5, &about(5));
     let frame = [&[0x23, 0x80, 0, 20][..], &[5; 10], &[6; 10]].concat();
     let mut reply = vec![FILLER; 4279];
     assert_eq!(
@@ -257,11 +253,7 @@ fn a_frame_that_is_not_4_plus_its_body_length_is_104() {
 #[test]
 fn a_cleared_slot_may_be_reserved_again_at_once() {
     let mut table = mixed_table();
-    let handle = |byte| OwnFields {
-        handle: [byte; 10],
-        ..OwnFields::default()
-    };
-    call_for(0, &mut table, 6, &handle(5));
+    call_for(0, &mut table, 6, &about(5));
     call_for(0, &mut table, 1, &setup(5, 1));
     let slots = table::slots(&table);
     assert_eq!(

@@ -245,22 +245,40 @@ pub fn mixed_table() -> Vec<u8> {
     call_for(0, &mut table, 2, &right(1, 2, 33));
     call_for(0, &mut table, 2, &right(3, 8, 4096));
     call_for(0, &mut table, 2, &uncounted(right(4, 0, 9)));
-    let lending = OwnFields {
-        handle: [3; 10],
-        new_handle: [5; 10],
-        ..OwnFields::default()
-    };
-    call_for(0, &mut table, 4, &lending);
-    call_for(0, &mut table, 7, &OwnFields::default());
+    call_for(0, &mut table, 4, &lending(3, 5));
+    call_for(0, &mut table, 7, &about(0));
     table
+}
+
+/// The fields of a request that has only a handle, ten bytes `handle`.
+pub fn about(handle: u8) -> OwnFields {
+    OwnFields {
+        handle: [handle; 10],
+        ..OwnFields::default()
+    }
 }
 
 /// The fields of a setup under ten bytes `handle`.
 pub fn setup(handle: u8, length: u16) -> OwnFields {
     OwnFields {
-        handle: [handle; 10],
         length,
-        ..OwnFields::default()
+        ..about(handle)
+    }
+}
+
+/// The fields of a lending, from ten bytes `from` to ten bytes `to`.
+pub fn lending(from: u8, to: u8) -> OwnFields {
+    OwnFields {
+        new_handle: [to; 10],
+        ..about(from)
+    }
+}
+
+/// The fields of a return of ten bytes `handle`.
+pub fn returning(handle: u8, count: Count) -> OwnFields {
+    OwnFields {
+        count,
+        ..about(handle)
     }
 }
 
