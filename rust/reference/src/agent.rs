@@ -18,19 +18,23 @@ type Outcome = Result<Success, Status>;
 
 /// One call of the card agent.
 ///
-/// It tests for 101, 102, 103 and 104 in this order (PROFILE 4.1), and a call
-/// that gives one of them changes neither table nor reply buffer. Any other
-/// call gives 0 and writes a reply at the start of the buffer, whose remaining
+/// It tests for 101, 102, 105, 103 and 104 in this order (PROFILE 4.1), and a
+/// call that gives one of them changes neither table nor reply buffer. Any other
+/// call gives 0 and writes a reply at offset 0 of the buffer, whose remaining
 /// bytes keep what they held. A reply with a status other than 0 leaves the
 /// table as it was (PROFILE 4.2).
-pub fn call(table: &mut [u8], frame: &[u8], reply: &mut [u8]) -> u16 {
+///
+/// `start` is the number of the slot from which a setup looks for an empty one;
+/// no other kind heeds it.
+pub fn call(table: &mut [u8], start: u64, frame: &[u8], reply: &mut [u8]) -> u16 {
     if reply.len() < REPLY_ROOM {
         return REPLY_BUFFER_SHORT;
     }
-    if let Err(number) = table::check(table) {
-        return number;
-    }
-    let Some(answer) = answer(table::slots_mut(table), frame) else {
+    let start = match table::check_with_start(table, start) {
+        Ok(start) => start,
+        Err(number) => return number,
+    };
+    let Some(answer) = answer(table::slots_mut(table), start, frame) else {
         return NO_FRAME;
     };
     reply[..answer.len()].copy_from_slice(&answer);
@@ -41,19 +45,19 @@ pub fn call(table: &mut [u8], frame: &[u8], reply: &mut [u8]) -> u16 {
 ///
 /// The reply is of version 1 and has the kind bits of the frame, whatever
 /// version and kind these are.
-fn answer(slots: &mut [SlotBytes], frame: &[u8]) -> Option<Vec<u8>> {
+fn answer(slots: &mut [SlotBytes], start: usize, frame: &[u8]) -> Option<Vec<u8>> {
     let outcome = match read_request(frame) {
         ReadRequest::NoFrame => return None,
         ReadRequest::Refused(status) => Err(status),
-        ReadRequest::Request(request) => carry_out(slots, &request),
+        ReadRequest::Request(request) => carry_out(slots, start, &request),
     };
     Some(reply_frame(kind_bits(frame[0]), &outcome))
 }
 
-fn carry_out(slots: &mut [SlotBytes], request: &Request<'_>) -> Outcome {
+fn carry_out(slots: &mut [SlotBytes], start: usize, request: &Request<'_>) -> Outcome {
     let fields = &request.fields;
     match request.kind {
-        Kind::InstallationSetup => set_up(slots, fields),
+        Kind::InstallationSetup => set_up(slots, start, fields),
         Kind::RightsInstallation => install(slots, fields),
         Kind::RightsRetrieval => retrieve(slots, fields),
         Kind::RekQuery => query_rek(slots, fields),
@@ -67,8 +71,8 @@ fn carry_out(slots: &mut [SlotBytes], request: &Request<'_>) -> Outcome {
 
 /// Kind 1 (PROFILE 5.1): status 2 for a length of 0, then 5 for a handle in
 /// use, then 7 for a length over 4,096 or where no slot is empty. A success
-/// reserves the lowest empty slot.
-fn set_up(slots: &mut [SlotBytes], fields: &Fields<'_>) -> Outcome {
+/// reserves the empty slot that a search from `start` comes to first.
+fn set_up(slots: &mut [SlotBytes], start: usize, fields: &Fields<'_>) -> Outcome {
     if fields.length == 0 {
         return Err(Status::ParameterFailed);
     }
@@ -76,7 +80,7 @@ fn set_up(slots: &mut [SlotBytes], fields: &Fields<'_>) -> Outcome {
     if usize::from(fields.length) > MAX_PAYLOAD {
         return Err(Status::NotEnoughSpace);
     }
-    let index = table::lowest_empty(slots).ok_or(Status::NotEnoughSpace)?;
+    let index = table::first_empty(slots, start).ok_or(Status::NotEnoughSpace)?;
     slot::reserve(&mut slots[index], &fields.handle, fields.length);
     Ok(Success::default())
 }

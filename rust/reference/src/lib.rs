@@ -9,7 +9,7 @@
 //!
 //! | item | what it is | PROFILE |
 //! |---|---|---|
-//! | [`call`] | the card agent: a lent table, a request frame, a lent reply buffer | 1.1, 4, 5 |
+//! | [`call`] | the card agent: a lent table, a start, a frame, a lent reply buffer | 1.1, 4, 5 |
 //! | [`write_request`] | the device's request writer | 6.2 |
 //! | [`read_request`] | the request reader, which the card uses too | 6.1 |
 //! | [`read_reply`] | the device's reply reader | 6.3 |
@@ -31,7 +31,8 @@
 //!
 //! # Example
 //!
-//! Case 1 of the card profile (PROFILE 9.1), on a blank table of one slot:
+//! Case 1 of the card profile (PROFILE 9.1), on a blank table of one slot and
+//! with the start 0:
 //!
 //! ```
 //! use reference::{call, listing, write_request, WriterFields, REPLY_ROOM, SLOT_BYTES};
@@ -42,7 +43,7 @@
 //!
 //! let mut table = vec![0; SLOT_BYTES];
 //! let mut reply = vec![0; REPLY_ROOM];
-//! assert_eq!(call(&mut table, &frame, &mut reply), 0);
+//! assert_eq!(call(&mut table, 0, &frame, &mut reply), 0);
 //! assert_eq!(reply[..4], [0x21, 0, 0, 0]);
 //! assert_eq!(
 //!     listing(&table),

@@ -16,6 +16,9 @@ pub const TABLE_NOT_WELL_FORMED: u16 = 103;
 /// (PROFILE 4.1).
 pub const NO_FRAME: u16 = 104;
 
+/// The start is not below the number of slots (PROFILE 4.1).
+pub const START_OUTSIDE: u16 = 105;
+
 /// The writer's buffer is shorter than the frame (PROFILE 6.2).
 pub const WRITER_BUFFER_SHORT: u16 = 201;
 

@@ -1,5 +1,5 @@
 //! The worked examples of the card profile, cases 1 to 17 (PROFILE 9), as one
-//! table.
+//! table. All are run with the start 0.
 
 mod common;
 

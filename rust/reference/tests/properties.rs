@@ -3,7 +3,7 @@
 
 mod common;
 
-use common::{blank, call, frame_bytes, Asker, FILLER};
+use common::{blank, call_from, frame_bytes, Asker, FILLER};
 use random::Rng;
 use reference::ledger::{agrees, Ledger, Right, Standing};
 use reference::ReadRequest::{NoFrame, Refused, Request};
@@ -25,11 +25,12 @@ impl Card {
         }
     }
 
-    /// Makes one call and asserts what must hold of every call. Gives the
-    /// kind bits and the status of the reply, if there is one.
-    fn call(&mut self, frame: &[u8]) -> Option<(u8, u8)> {
+    /// Makes one call, from a slot of the table, and asserts what must hold of
+    /// every call. Gives the kind bits and the status of the reply, if there is
+    /// one.
+    fn call(&mut self, start: usize, frame: &[u8]) -> Option<(u8, u8)> {
         let before = self.table.clone();
-        let given = call(&mut self.table, frame);
+        let given = call_from(start as u64, &mut self.table, frame);
         let read = read_request(frame);
         if given.number != 0 {
             assert_eq!((given.number, read), (104, NoFrame));
@@ -146,7 +147,8 @@ fn call_sequences_keep_tables_well_formed_and_agree_with_the_ledger() {
             let mut card = Card::blank(slots);
             let asker = Asker::new(slots + 2);
             for _ in 0..250 {
-                if let Some((kind, status)) = card.call(&asker.frame(&mut rng)) {
+                let start = rng.below(slots);
+                if let Some((kind, status)) = card.call(start, &asker.frame(&mut rng)) {
                     let kind = if (1..=9).contains(&kind) { kind } else { 0 };
                     seen.insert((kind, status));
                 }
@@ -215,6 +217,24 @@ fn frames_that_read_as_requests_are_written_to_the_same_bytes() {
     assert!(ignored_verdicts > 100, "{ignored_verdicts} verdicts of 0");
 }
 
+/// The number of a call on a table of up to two slots that is blank, or has one
+/// byte of an empty slot set, or has random bytes.
+fn expected_number(room: usize, table: &[u8], start: u64, frame: &[u8]) -> u16 {
+    if room < REPLY_ROOM {
+        101
+    } else if table.len() != 4288 && table.len() != 8576 {
+        102
+    } else if start >= (table.len() / 4288) as u64 {
+        105
+    } else if table.iter().any(|&byte| byte != 0) {
+        103
+    } else if read_request(frame) == NoFrame {
+        104
+    } else {
+        0
+    }
+}
+
 #[test]
 fn refused_calls_change_nothing() {
     let mut rng = Rng::announced("refused calls");
@@ -229,25 +249,16 @@ fn refused_calls_change_nothing() {
             table[rng.below(length)] = 1;
         }
         let room = rng.pick(&[0, REPLY_ROOM - 1, REPLY_ROOM, REPLY_ROOM, REPLY_ROOM]);
+        let start = rng.pick(&[0, 0, 0, 1, 2, 3, 1 << 32, u64::MAX]);
         let mut frame = asker.frame(&mut rng);
         if rng.one_in(3) {
             frame.push(0);
         }
 
-        let expected = if room < REPLY_ROOM {
-            101
-        } else if length != 4288 && length != 8576 {
-            102
-        } else if table.iter().any(|&byte| byte != 0) {
-            103 // one byte of an empty slot, or random bytes
-        } else if read_request(&frame) == NoFrame {
-            104
-        } else {
-            0
-        };
+        let expected = expected_number(room, &table, start, &frame);
         let before = table.clone();
         let mut reply = vec![FILLER; room];
-        let number = reference::call(&mut table, &frame, &mut reply);
+        let number = reference::call(&mut table, start, &frame, &mut reply);
         assert_eq!(number, expected);
         if number != 0 {
             assert!(table == before);

@@ -1,4 +1,5 @@
-//! What a well-formed table is, and the order of the numbers 101 to 104.
+//! What a well-formed table is, and the order in which a call tests for its
+//! numbers.
 
 mod common;
 
@@ -204,17 +205,18 @@ fn numbers_are_tested_in_order() {
     let mut ill_formed = blank(1);
     ill_formed[191] = 1;
     let part = ill_formed[..SLOT_BYTES - 1].to_vec();
-    let rows: [(u16, &[u8], usize); 4] = [
-        (101, &part, REPLY_ROOM - 1),
-        (102, &part, REPLY_ROOM),
-        (103, &ill_formed, REPLY_ROOM),
-        (104, &blank(1), REPLY_ROOM),
+    let rows: [(u16, &[u8], u64, usize); 5] = [
+        (101, &part, 1, REPLY_ROOM - 1),
+        (102, &part, 1, REPLY_ROOM),
+        (105, &ill_formed, 1, REPLY_ROOM),
+        (103, &ill_formed, 0, REPLY_ROOM),
+        (104, &blank(1), 0, REPLY_ROOM),
     ];
-    for (number, before, room) in rows {
+    for (number, before, start, room) in rows {
         let mut table = before.to_vec();
         let mut reply = vec![FILLER; room];
         assert_eq!(
-            reference::call(&mut table, &[0x21, 0x80, 0], &mut reply),
+            reference::call(&mut table, start, &[0x21, 0x80, 0], &mut reply),
             number
         );
         assert!(table == before);
@@ -229,11 +231,11 @@ fn a_buffer_of_4279_bytes_takes_the_longest_reply() {
     let frame = [&[0x23, 0x80, 0, 20][..], &[5; 10], &[6; 10]].concat();
     let mut reply = vec![FILLER; 4279];
     assert_eq!(
-        reference::call(&mut table.clone(), &frame, &mut reply[1..]),
+        reference::call(&mut table.clone(), 0, &frame, &mut reply[1..]),
         101
     );
     assert_eq!(reply, vec![FILLER; 4279]);
-    assert_eq!(reference::call(&mut table, &frame, &mut reply), 0);
+    assert_eq!(reference::call(&mut table, 0, &frame, &mut reply), 0);
     assert_eq!(reply[..4], [0x23, 0, 0x10, 0xB3]);
     assert_eq!(4 + 0x10B3, 4279);
     assert_eq!(reply[4278], 0xFF);

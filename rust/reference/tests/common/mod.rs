@@ -209,11 +209,16 @@ pub struct Given {
     pub reply: Vec<u8>,
 }
 
+/// Calls the agent with the start 0.
+pub fn call(table: &mut [u8], frame: &[u8]) -> Given {
+    call_from(0, table, frame)
+}
+
 /// Calls the agent with a buffer of `FILLER`, and asserts that nothing but the
 /// reply was written to it.
-pub fn call(table: &mut [u8], frame: &[u8]) -> Given {
+pub fn call_from(start: u64, table: &mut [u8], frame: &[u8]) -> Given {
     let mut buffer = vec![FILLER; REPLY_ROOM + 3];
-    let number = reference::call(table, frame, &mut buffer);
+    let number = reference::call(table, start, frame, &mut buffer);
     let length = match number {
         0 => 4 + usize::from(u16::from_be_bytes([buffer[2], buffer[3]])),
         _ => 0,
@@ -226,7 +231,7 @@ pub fn call(table: &mut [u8], frame: &[u8]) -> Given {
     }
 }
 
-/// Calls the agent and asserts that it gives this status.
+/// Calls the agent with the start 0, and asserts that it gives this status.
 pub fn call_for(status: u8, table: &mut [u8], kind: u8, fields: &OwnFields) -> Vec<u8> {
     let given = call(table, &frame_bytes(kind, fields));
     assert_eq!(given.number, 0);
