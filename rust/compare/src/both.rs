@@ -12,31 +12,45 @@ pub struct Both {
 impl Both {
     /// Starts with this table.
     pub fn on(table: Vec<u8>) -> Both {
-        let mut driver = Driver::start();
-        let sent = driver.commands.table(&table);
-        sent.expect("the driver takes the table");
-        Both { driver, table }
+        let driver = Driver::start();
+        let mut both = Both { driver, table };
+        both.lend();
+        both
     }
 
-    /// Makes a call with this frame and this reply buffer.
+    /// Goes on with this table.
+    pub fn go_on(&mut self, table: Vec<u8>) {
+        self.table = table;
+        self.lend();
+    }
+
+    /// Lends the archive a table that is equal to the reference's.
+    fn lend(&mut self) {
+        let sent = self.driver.commands.table(&self.table);
+        sent.expect("the driver takes the table");
+    }
+
+    /// Makes a call with this start, this frame and this reply buffer.
     ///
     /// # Panics
     ///
     /// Where the archive and the reference differ.
-    pub fn call(&mut self, frame: &[u8], buffer: &[u8]) -> Call {
+    pub fn call(&mut self, start: u64, frame: &[u8], buffer: &[u8]) -> Call {
         let commands = &mut self.driver.commands;
-        let sent = commands.call(frame, buffer).and_then(|()| commands.send());
-        sent.expect("the driver takes the call");
+        let sent = commands.call(start, frame, buffer);
+        sent.and_then(|()| commands.send())
+            .expect("the driver takes the call");
         let given = self.driver.answers.call();
         let mut reply = buffer.to_vec();
-        let number = reference::call(&mut self.table, frame, &mut reply);
+        let number = reference::call(&mut self.table, start, frame, &mut reply);
         let expected = Call {
             number,
             reply,
             table: self.table.clone(),
         };
         if let Err(difference) = given.same_as(&expected) {
-            panic!("a frame of {} bytes: {difference}", frame.len());
+            let length = frame.len();
+            panic!("from {start}, a frame of {length} bytes: {difference}");
         }
         given
     }

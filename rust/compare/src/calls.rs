@@ -4,13 +4,16 @@
 //! compared; so are the listings of the table after each call.
 
 use crate::frames::Asker;
-use crate::outcome::{Counted, Counts, Outcome, Return, Returns};
+use crate::outcome::{Counted, Counts, Outcome, Return, Returns, Search, Searches};
 use crate::pipeline::{self, Giver};
+use crate::refusals::{Asked, Precedence};
+use crate::starts::start;
 use crate::tables::{blank, damaged, listing_buffer, reply_buffer};
 use driver::{Call, Listed, Same};
 use random::Rng;
 use reference::ledger::{agrees, Ledger, Standing};
-use reference::{read_request, Kind, ReadRequest, Request, MAX_SLOTS};
+use reference::number::START_OUTSIDE;
+use reference::{read_request, Kind, ReadRequest, Request, MAX_SLOTS, SLOT_BYTES};
 use std::collections::BTreeMap;
 use std::io::Result;
 
@@ -28,9 +31,20 @@ enum History {
     Apart,
 }
 
+impl History {
+    /// One call in how many has a start that is not the number of a slot.
+    fn outside_in(self) -> usize {
+        match self {
+            History::Apart => 3,
+            _ => 12,
+        }
+    }
+}
+
 /// What is expected of a call: its outcome by the reference.
 struct Expected {
     history: History,
+    start: u64,
     frame: Vec<u8>,
     call: Call,
     listed: Listed,
@@ -43,8 +57,33 @@ pub struct Seen {
     pub calls: Counts,
     /// The returns that succeeded.
     pub returns: Returns,
+    /// The setups that looked for an empty slot.
+    pub searches: Searches,
+    /// Which number went before which, where a call had a reason for both.
+    pub precedences: BTreeMap<Precedence, u64>,
+    /// What 105 was given for.
+    pub outside: BTreeMap<Asked, u64>,
     /// The first lines of the listings: the header, or a refusal.
     pub listings: BTreeMap<String, u64>,
+}
+
+impl Seen {
+    /// Notes a call that had the outcome expected, if its number is the first of
+    /// those that it had a reason for.
+    fn note(&mut self, outcome: Outcome, expected: &Expected) -> Same {
+        let (start, frame, call) = (expected.start, &expected.frame, &expected.call);
+        *self.calls.entry(outcome).or_default() += 1;
+        if let Some(search) = Search::of(start, frame, call) {
+            *self.searches.entry(search).or_default() += 1;
+        }
+        for precedence in Precedence::all_of(start, frame, call)? {
+            *self.precedences.entry(precedence).or_default() += 1;
+        }
+        if outcome == Outcome::Refused(START_OUTSIDE) {
+            *self.outside.entry(Asked::of(frame)).or_default() += 1;
+        }
+        Ok(())
+    }
 }
 
 /// Makes at least this many calls, on tables of 1 to 15 slots in turn, and
@@ -104,10 +143,11 @@ fn call(
     history: History,
     table: &mut [u8],
 ) -> Result<()> {
+    let start = start(rng, table.len() / SLOT_BYTES, history.outside_in());
     let frame = asker.frame(rng);
     let mut reply = reply_buffer(rng);
-    giver.commands.call(&frame, &reply)?;
-    let number = reference::call(table, &frame, &mut reply);
+    giver.commands.call(start, &frame, &reply)?;
+    let number = reference::call(table, start, &frame, &mut reply);
     let call = Call {
         number,
         reply,
@@ -120,6 +160,7 @@ fn call(
     let length = u16::try_from(listing.len()).expect("no listing is so long");
     giver.expect(Expected {
         history,
+        start,
         frame,
         call,
         listed: Listed { length, out },
@@ -141,7 +182,7 @@ impl Checker {
             .and_then(|()| listed.same_as(&expected.listed))
             .and_then(|()| {
                 let outcome = Outcome::of(given.number, &expected.frame, &given.reply);
-                *self.seen.calls.entry(outcome).or_default() += 1;
+                self.seen.note(outcome, expected)?;
                 let first = first_line(listed);
                 *self.seen.listings.entry(first).or_default() += 1;
                 self.follow(expected, outcome, &given.table)
@@ -209,8 +250,9 @@ fn describe(expected: &Expected) -> String {
         _ => "reached",
     };
     format!(
-        "on a {table} table of {} bytes, with a frame of {} bytes that begins {:02x?}",
+        "on a {table} table of {} bytes, from {}, with a frame of {} bytes that begins {:02x?}",
         expected.call.table.len(),
+        expected.start,
         frame.len(),
         &frame[..frame.len().min(64)]
     )

@@ -7,13 +7,16 @@
 //! | | |
 //! |---|---|
 //! | [`frames`] | request frames at random, right and wrong ones |
+//! | [`starts`] | starts at random, right and wrong ones |
 //! | [`tables`] | damaged tables, old ones, and buffers for replies and listings |
 //! | [`pipeline`] | many commands on their way at once |
 //! | [`calls`] | many calls, made at random and checked |
 //! | [`device`] | requests written and replies read, at random |
 //! | [`turning`] | tables from before a count had its bit, turned at random |
 //! | [`both`] | one call after another, on a table chosen by a test |
+//! | [`pair`] | two cards that are sent the same frames from different starts |
 //! | [`outcome`] | which outcomes occurred, and which must occur |
+//! | [`refusals`] | which calls gave a number, and what else was wrong with them |
 //!
 //! `COMPARE_SEED` sets another seed and `COMPARE_CALLS` another number of
 //! calls, both in decimal.
@@ -26,6 +29,9 @@ pub mod calls;
 pub mod device;
 pub mod frames;
 pub mod outcome;
+pub mod pair;
 pub mod pipeline;
+pub mod refusals;
+pub mod starts;
 pub mod tables;
 pub mod turning;

@@ -1,6 +1,8 @@
 //! Which outcomes calls had, and which they must have had.
 
-use reference::Count;
+use driver::Call;
+use reference::{read_request, slot, table, Count, Kind, ReadRequest, MAX_PAYLOAD};
+use std::cmp::Ordering;
 use std::collections::BTreeMap;
 use std::fmt;
 
@@ -124,11 +126,77 @@ impl fmt::Display for Return {
     }
 }
 
+/// Which slot a setup took, as seen from its start.
+#[derive(Clone, Copy, Debug, PartialEq, Eq, PartialOrd, Ord)]
+pub enum Taken {
+    /// The slot that it started from.
+    Start,
+    /// A slot above that one.
+    Above,
+    /// A slot below it: the search wrapped round.
+    Below,
+    /// None, with status 7: no slot is empty.
+    Nothing,
+}
+
+/// A setup that looked for an empty slot.
+#[derive(Clone, Copy, Debug, PartialEq, Eq, PartialOrd, Ord)]
+pub struct Search {
+    /// Whether it started from slot 0.
+    pub from_0: bool,
+    /// Which slot it took.
+    pub taken: Taken,
+}
+
+impl Search {
+    /// The search that a call with this start and this frame made; `None` where
+    /// it made none.
+    pub fn of(start: u64, frame: &[u8], call: &Call) -> Option<Search> {
+        let (0, ReadRequest::Request(request)) = (call.number, read_request(frame)) else {
+            return None;
+        };
+        if request.kind != Kind::InstallationSetup {
+            return None;
+        }
+        let taken = match call.reply[1] {
+            0 => {
+                let mut slots = table::slots(&call.table).iter();
+                let at = slots.position(|slot| slot::has_handle(slot, &request.fields.handle))?;
+                match (at as u64).cmp(&start) {
+                    Ordering::Equal => Taken::Start,
+                    Ordering::Greater => Taken::Above,
+                    Ordering::Less => Taken::Below,
+                }
+            }
+            7 if usize::from(request.fields.length) <= MAX_PAYLOAD => Taken::Nothing,
+            _ => return None,
+        };
+        let from_0 = start == 0;
+        Some(Search { from_0, taken })
+    }
+}
+
+impl fmt::Display for Search {
+    fn fmt(&self, f: &mut fmt::Formatter<'_>) -> fmt::Result {
+        let from = if self.from_0 { "0" } else { "another slot" };
+        let taken = match self.taken {
+            Taken::Start => "that slot taken",
+            Taken::Above => "a slot above taken",
+            Taken::Below => "a slot below taken",
+            Taken::Nothing => "none is empty",
+        };
+        write!(f, "setup from {from}: {taken}")
+    }
+}
+
 /// How often each outcome occurred.
 pub type Counts = BTreeMap<Outcome, u64>;
 
 /// How often each return occurred.
 pub type Returns = BTreeMap<Return, u64>;
+
+/// How often each search occurred.
+pub type Searches = BTreeMap<Search, u64>;
 
 /// The statuses that a kind can have (PROFILE 4.2, 5).
 fn statuses(kind: u8) -> &'static [u8] {
@@ -155,7 +223,7 @@ fn counts(kind: u8, status: u8) -> &'static [Counted] {
 /// Every outcome that can occur: each number, and each kind with the statuses
 /// and counts that it can have.
 pub fn that_can_occur() -> Vec<Outcome> {
-    let mut outcomes: Vec<Outcome> = (101..=104).map(Outcome::Refused).collect();
+    let mut outcomes: Vec<Outcome> = (101..=105).map(Outcome::Refused).collect();
     for kind in 0..32 {
         for &status in statuses(kind) {
             outcomes.extend(
@@ -182,6 +250,18 @@ pub fn returns_that_can_occur() -> Vec<Return> {
         }
     }
     returns
+}
+
+/// Every search that can occur: below slot 0 there is none to be taken.
+pub fn searches_that_can_occur() -> Vec<Search> {
+    let taken = [Taken::Start, Taken::Above, Taken::Nothing];
+    let from = |from_0| taken.map(|taken| Search { from_0, taken });
+    let mut searches = [from(true), from(false)].concat();
+    searches.push(Search {
+        from_0: false,
+        taken: Taken::Below,
+    });
+    searches
 }
 
 /// Asserts that what occurred is what can occur, and prints how often it did.

@@ -2,6 +2,7 @@
 
 use crate::frames::Asker;
 use crate::pipeline::{self, Giver};
+use crate::starts::inside;
 use crate::tables::{before_turning, blank, damaged};
 use driver::Turned;
 use random::Rng;
@@ -99,7 +100,8 @@ fn fill_and_turn(giver: &mut Giver<Expected>, rng: &mut Rng, slots: usize) -> Re
     let mut table = blank(slots);
     let mut made = 0;
     for step in 0..REQUESTS {
-        reference::call(&mut table, &asker.frame(rng), &mut [0; REPLY_ROOM]);
+        let start = inside(rng, slots);
+        reference::call(&mut table, start, &asker.frame(rng), &mut [0; REPLY_ROOM]);
         if step % (REQUESTS / TURNINGS) != 0 {
             continue;
         }

@@ -2,7 +2,9 @@
 //! table that the reference gives, and every table agrees with its history.
 
 use compare::calls::compare;
-use compare::outcome::{assert_all_occurred, returns_that_can_occur, that_can_occur};
+use compare::outcome::{assert_all_occurred, returns_that_can_occur};
+use compare::outcome::{searches_that_can_occur, that_can_occur};
+use compare::refusals::{Asked, Precedence};
 use random::{setting, Rng};
 
 /// The calls made unless `COMPARE_CALLS` says how many.
@@ -17,6 +19,9 @@ fn random_calls_agree_with_the_reference_and_with_their_history() {
     assert!(made >= calls);
     assert_all_occurred(&seen.calls, that_can_occur());
     assert_all_occurred(&seen.returns, returns_that_can_occur());
+    assert_all_occurred(&seen.searches, searches_that_can_occur());
+    assert_all_occurred(&seen.precedences, Precedence::that_can_occur());
+    assert_all_occurred(&seen.outside, Asked::that_can_occur());
     for (line, count) in &seen.listings {
         println!("{count:>9}  listing: {line}");
     }

@@ -1,5 +1,6 @@
 //! Cases 13 to 17 of the card profile (PROFILE 9.2, 9.3), what else is refused for
-//! the bit of a count, and the fullest card that there can be.
+//! the bit of a count, and the fullest card that there can be. All calls have the
+//! start 0.
 
 use compare::both::Both;
 use compare::frames::{frame, KINDS_OUTSIDE};
@@ -14,7 +15,7 @@ const BUFFER: [u8; REPLY_ROOM + 1] = [FILLER; REPLY_ROOM + 1];
 
 /// Makes a call that gives a reply, and gives the reply.
 fn reply(both: &mut Both, frame: &[u8]) -> Vec<u8> {
-    let mut given = both.call(frame, &BUFFER);
+    let mut given = both.call(0, frame, &BUFFER);
     assert_eq!(given.number, 0);
     let length = 4 + usize::from(u16::from_be_bytes([given.reply[2], given.reply[3]]));
     let rest = given.reply.split_off(length);
@@ -24,7 +25,7 @@ fn reply(both: &mut Both, frame: &[u8]) -> Vec<u8> {
 
 /// Makes a call, and asserts that it is refused with nothing changed.
 fn assert_refused(table: &[u8], frame: &[u8], number: u16) {
-    let given = Both::on(table.to_vec()).call(frame, &BUFFER);
+    let given = Both::on(table.to_vec()).call(0, frame, &BUFFER);
     assert_eq!(given.number, number);
     assert!(given.reply == BUFFER && given.table == table);
 }
@@ -294,7 +295,7 @@ fn the_fullest_card() {
         let gone = reply(&mut both, &frame(6, 0x80, &[n + 100; 10]));
         assert_eq!(gone, [0x26, 0, 0, 0]);
     }
-    let last = both.call(&frame(8, 0x80, &[0, 0, 0]), &BUFFER[..REPLY_ROOM]);
+    let last = both.call(0, &frame(8, 0x80, &[0, 0, 0]), &BUFFER[..REPLY_ROOM]);
     assert_eq!(last.reply[..5], [0x28, 0, 0, 1, 0]);
     assert!(last.table == blank(15) && last.table.len() == 15 * SLOT_BYTES);
 }

@@ -2,8 +2,9 @@
 //! are those of the reference.
 
 use cavernlull::{AssetHash, Card, Handle, Key, Kind, Reply, Request, Right, Status};
-use cavernlull::{TurnError, Verdict};
+use cavernlull::{CallError, Error, TurnError, Verdict};
 use compare::frames::Asker;
+use compare::starts::{inside, start};
 use compare::tables::{before_turning, blank, damaged};
 use random::Rng;
 use reference::{Count, Fields, ReadRequest, HANDLE_BYTES, HASH_BYTES, MAX_SLOTS, REPLY_ROOM};
@@ -124,23 +125,35 @@ struct Pair {
 }
 
 impl Pair {
-    /// Has both answer the same request, and gives kind and status.
-    fn ask(&mut self, read: &reference::Request<'_>, verdict: Verdict) -> (u8, Status) {
+    /// Has both answer the same request from the same start, and gives kind and
+    /// status; `None` where the start is not the number of a slot.
+    fn ask(
+        &mut self,
+        start: u64,
+        read: &reference::Request<'_>,
+        verdict: Verdict,
+    ) -> Option<(u8, Status)> {
         let request = request(read);
         let mut sent = frame(read.kind, &read.fields);
         assert_eq!(request.to_frame().as_ref(), Ok(&sent), "{request:?}");
         verdict.put_into(&mut sent);
         let mut buffer = [0; REPLY_ROOM];
-        assert_eq!(reference::call(&mut self.table, &sent, &mut buffer), 0);
-        let length = 4 + usize::from(u16::from_be_bytes([buffer[2], buffer[3]]));
-        let given = self.card.call(&request, verdict);
-        assert_eq!(given, Ok(reply(&buffer[..length])), "{request:?}");
+        let expected = match reference::call(&mut self.table, start, &sent, &mut buffer) {
+            0 => {
+                let length = 4 + usize::from(u16::from_be_bytes([buffer[2], buffer[3]]));
+                Ok(reply(&buffer[..length]))
+            }
+            105 => Err(Error::Call(CallError::StartOutside)),
+            number => panic!("{number} for {request:?}"),
+        };
+        let given = self.card.call_from(start as usize, &request, verdict);
+        assert_eq!(given, expected, "{request:?}");
         assert!(self.card.table() == self.table, "{request:?}");
         let listing = self.card.listing().to_string();
         assert_eq!(listing.as_bytes(), reference::listing(&self.table));
-        let given = given.expect("a reply");
+        let given = given.ok()?;
         self.told.extend(told(&given));
-        (buffer[0] & 31, given.status())
+        Some((buffer[0] & 31, given.status()))
     }
 }
 
@@ -161,12 +174,17 @@ fn typed_requests_have_the_replies_that_the_reference_gives() {
                 0 => Verdict::Failed,
                 _ => Verdict::Held,
             };
+            let start = start(&mut rng, slots, 12);
             if let ReadRequest::Request(read) = reference::read_request(&frame) {
-                seen.insert(pair.ask(&read, verdict));
+                seen.insert(pair.ask(start, &read, verdict));
             }
         }
         counts.extend(pair.told);
     }
+    assert!(
+        seen.remove(&None),
+        "a start that is not the number of a slot"
+    );
     assert_eq!(seen.len(), CAN_OCCUR, "{seen:?}");
     assert_eq!(counts.len(), 2 * 3, "{counts:?}");
 }
@@ -182,7 +200,8 @@ fn old_tables_are_turned_as_the_reference_turns_them() {
         let mut table = blank(slots);
         for _ in 0..REQUESTS / 4 {
             for _ in 0..4 {
-                reference::call(&mut table, &asker.frame(&mut rng), &mut [0; REPLY_ROOM]);
+                let (start, frame) = (inside(&mut rng, slots), asker.frame(&mut rng));
+                reference::call(&mut table, start, &frame, &mut [0; REPLY_ROOM]);
             }
             let mut old = before_turning(&table);
             if rng.one_in(3) {

@@ -115,10 +115,10 @@ fn a_turned_table_is_called() {
     let query = |handle: u8| [&[0x29, 0x80, 0, 10][..], &[handle; 10]].concat();
     let buffer = [0; reference::REPLY_ROOM];
     let mut both = Both::on([slot(2, 1, 7), slot(2, 2, 0)].concat());
-    assert_eq!(both.call(&query(1), &buffer).number, 103);
+    assert_eq!(both.call(0, &query(1), &buffer).number, 103);
     assert_eq!(both.turn().number, 0);
-    let told = both.call(&query(1), &buffer).reply;
+    let told = both.call(0, &query(1), &buffer).reply;
     assert_eq!(told[..6], [0x29, 0x80, 0, 7, 0, 7]);
-    let told = both.call(&query(2), &buffer).reply;
+    let told = both.call(0, &query(2), &buffer).reply;
     assert_eq!(told[..6], [0x29, 0x00, 0, 7, 0, 0]);
 }
