@@ -57,6 +57,9 @@ impl<T: AsRef<[u8]> + AsMut<[u8]>> Card<T> {
     /// Has the card answer a request: writes its frame, with the front end's
     /// verdict, calls the agent and reads the reply.
     ///
+    /// A setup takes the lowest empty slot; [`call_from`](Card::call_from) has
+    /// it look from another slot on.
+    ///
     /// A request that the card refuses to carry out is not an error: it is a
     /// [`Reply::Refused`].
     ///
@@ -66,15 +69,57 @@ impl<T: AsRef<[u8]> + AsMut<[u8]>> Card<T> {
     /// a wrong length; [`Error::Call`] where the bytes are not a well-formed
     /// table. Nothing is changed then.
     pub fn call(&mut self, request: &Request, verdict: Verdict) -> Result<Reply, Error> {
+        self.call_from(0, request, verdict)
+    }
+
+    /// Has the card answer a request as [`call`](Card::call) does, and gives
+    /// it a start: the slot, counted from 0, at which a setup begins to look
+    /// for an empty one. It looks upward from there and, after the last slot,
+    /// from slot 0 up to the slot before the start, and takes the first that
+    /// is empty.
+    ///
+    /// Only a setup uses the start. A [`Rotation`](crate::Rotation) chooses
+    /// starts by which all slots wear alike.
+    ///
+    /// # Errors
+    ///
+    /// Those of [`call`](Card::call), and [`CallError::StartOutside`] where the
+    /// card has no such slot, whatever the kind of the request.
+    ///
+    /// ```
+    /// use cavernlull::{CallError, Card, Error, Handle, Request, Verdict};
+    ///
+    /// let mut card = Card::blank(3);
+    /// for (n, room) in [(1, 100), (2, 200)] {
+    ///     let setup = Request::InstallationSetup { handle: Handle([n; 10]), room };
+    ///     card.call_from(2, &setup, Verdict::Held)?;
+    /// }
+    /// assert_eq!(
+    ///     card.listing().as_str(),
+    ///     "slot place hashes count length\n0 reserved 0 0 200\n1 empty 0 0 0\n2 reserved 0 0 100\n"
+    /// );
+    ///
+    /// let list = Request::HandleListQuery { limit: 0, hashes: vec![] };
+    /// let refused = card.call_from(3, &list, Verdict::Held);
+    /// assert_eq!(refused, Err(Error::Call(CallError::StartOutside)));
+    /// # Ok::<(), Error>(())
+    /// ```
+    pub fn call_from(
+        &mut self,
+        start: usize,
+        request: &Request,
+        verdict: Verdict,
+    ) -> Result<Reply, Error> {
         let mut frame = request.to_frame()?;
         verdict.put_into(&mut frame);
         let mut reply = [0; REPLY_ROOM];
-        Ok(Reply::read(self.call_frame(&frame, &mut reply)?)?)
+        let answer = self.call_frame_from(start, &frame, &mut reply)?;
+        Ok(Reply::read(answer)?)
     }
 
-    /// Has the card answer a request frame. Writes the reply at the start of
+    /// Has the card answer a request frame. Writes the reply at the front of
     /// the buffer and gives that part of it; the bytes after it keep what they
-    /// held.
+    /// held. A setup takes the lowest empty slot.
     ///
     /// # Errors
     ///
@@ -96,7 +141,24 @@ impl<T: AsRef<[u8]> + AsMut<[u8]>> Card<T> {
         frame: &[u8],
         reply: &'reply mut [u8],
     ) -> Result<&'reply [u8], CallError> {
-        CallError::of(archive::call(self.table.as_mut(), frame, reply))?;
+        self.call_frame_from(0, frame, reply)
+    }
+
+    /// Has the card answer a request frame as [`call_frame`](Card::call_frame)
+    /// does, with a start for a setup, as [`call_from`](Card::call_from) has.
+    ///
+    /// # Errors
+    ///
+    /// Those of [`call_frame`](Card::call_frame), and
+    /// [`CallError::StartOutside`] where the card has no such slot, whatever
+    /// the frame. Neither table nor buffer is changed then.
+    pub fn call_frame_from<'reply>(
+        &mut self,
+        start: usize,
+        frame: &[u8],
+        reply: &'reply mut [u8],
+    ) -> Result<&'reply [u8], CallError> {
+        CallError::of(archive::call(self.table.as_mut(), start, frame, reply))?;
         Ok(archive::frame_in(reply))
     }
 

@@ -23,6 +23,9 @@ pub enum CallError {
     /// 104: the frame has fewer than 4 bytes, or is not 4 bytes and its body
     /// length long.
     NoFrame,
+    /// 105: the start is not below the number of slots. It is looked at after
+    /// the table's length and before what is in the table, whatever the frame.
+    StartOutside,
 }
 
 /// The request writer did not write: the buffer is as it was.
@@ -69,13 +72,14 @@ pub enum Error {
 }
 
 impl CallError {
-    /// The number that the archive gives for this error, 101 to 104.
+    /// The number that the archive gives for this error, 101 to 105.
     pub const fn number(self) -> u16 {
         match self {
             CallError::ReplyBufferShort => 101,
             CallError::TableLength => 102,
             CallError::TableNotWellFormed => 103,
             CallError::NoFrame => 104,
+            CallError::StartOutside => 105,
         }
     }
 
@@ -87,6 +91,7 @@ impl CallError {
             102 => CallError::TableLength,
             103 => CallError::TableNotWellFormed,
             104 => CallError::NoFrame,
+            105 => CallError::StartOutside,
             _ => unknown(number),
         })
     }
@@ -172,6 +177,7 @@ impl fmt::Display for CallError {
             CallError::TableLength => "the table is not 1 to 15 slots of 4,288 bytes",
             CallError::TableNotWellFormed => "the table is not well formed",
             CallError::NoFrame => "the bytes are no frame: their length is not what they say",
+            CallError::StartOutside => "the start is not below the number of slots",
         })
     }
 }

@@ -2,9 +2,8 @@
 //! leaves all lent memory as it was.
 
 use cavernlull::{AssetHash, CallError, Card, Error, Handle, Listing, ReadError, Reply};
-use cavernlull::{
-    Request, Right, Status, TurnError, Verdict, WriteError, REPLY_ROOM, REQUEST_ROOM, SLOT_BYTES,
-};
+use cavernlull::{Request, Right, Status, TurnError, Verdict, WriteError};
+use cavernlull::{MOST_SLOTS, REPLY_ROOM, REQUEST_ROOM, SLOT_BYTES};
 
 const HANDLE: Handle = Handle([1; 10]);
 
@@ -26,12 +25,18 @@ fn installation(hashes: usize, payload: usize) -> Request {
     }
 }
 
-/// Asserts that the call is refused with this error, and that table and buffer
-/// stay as they were.
+/// Asserts that a call from slot 0 is refused with this error, and that table
+/// and buffer stay as they were.
 fn assert_refused(table: &[u8], frame: &[u8], room: usize, error: CallError) {
+    assert_refused_from(0, table, frame, room, error);
+}
+
+/// The same of a call with this start.
+fn assert_refused_from(start: usize, table: &[u8], frame: &[u8], room: usize, error: CallError) {
     let mut card = Card::from(table.to_vec());
     let mut buffer = vec![0xA5; room];
-    assert_eq!(card.call_frame(frame, &mut buffer), Err(error));
+    let given = card.call_frame_from(start, frame, &mut buffer);
+    assert_eq!(given, Err(error), "from {start}");
     assert!(card.table() == table && buffer.iter().all(|&byte| byte == 0xA5));
 }
 
@@ -51,6 +56,63 @@ fn the_agent_refuses_in_order() {
     assert_refused(&spoiled, cut, REPLY_ROOM, CallError::TableNotWellFormed);
     assert_refused(&blank, cut, REPLY_ROOM, CallError::NoFrame);
     assert_refused(&blank, &[], REPLY_ROOM, CallError::NoFrame);
+}
+
+/// Starts that are outside a card of so many slots. Of some of them, or of
+/// their offsets in bytes, the low bits are those of a slot.
+fn starts_outside(slots: usize) -> [usize; 8] {
+    [
+        slots,
+        slots + 1,
+        1 << 8,
+        1 << 16,
+        1 << 32,
+        1 << 58,
+        1 << 63,
+        usize::MAX,
+    ]
+}
+
+/// 105 is for every frame, whether it is one or not. It comes after 101 and
+/// 102, and before 103 and 104 (PROFILE 4.1).
+#[test]
+fn a_start_outside_the_card_is_refused_whatever_the_frame() {
+    let mut frames: Vec<Vec<u8>> = (0..32).map(|kind| vec![0x20 | kind, 0x80, 0, 0]).collect();
+    frames.extend([vec![], vec![0x21], setup().to_frame().unwrap()]);
+    let mut table = vec![0; 2 * SLOT_BYTES];
+    table[2 * SLOT_BYTES - 1] = 1;
+    for frame in &frames {
+        for start in starts_outside(2) {
+            let refused = |table: &[u8], room, error| {
+                assert_refused_from(start, table, frame, room, error);
+            };
+            refused(&table, REPLY_ROOM - 1, CallError::ReplyBufferShort);
+            refused(&table[1..], REPLY_ROOM, CallError::TableLength);
+            refused(&table, REPLY_ROOM, CallError::StartOutside);
+            refused(&[0; 2 * SLOT_BYTES], REPLY_ROOM, CallError::StartOutside);
+        }
+        let within = CallError::TableNotWellFormed;
+        assert_refused_from(1, &table, frame, REPLY_ROOM, within);
+    }
+}
+
+/// Each card takes its own slots as starts, and nothing else.
+#[test]
+fn a_start_is_below_the_number_of_slots() {
+    let frame = setup().to_frame().unwrap();
+    for slots in 1..=MOST_SLOTS {
+        let table = vec![0; slots * SLOT_BYTES];
+        for start in starts_outside(slots) {
+            assert_refused_from(start, &table, &frame, REPLY_ROOM, CallError::StartOutside);
+        }
+        for start in 0..slots {
+            assert_refused_from(start, &table, &frame[..15], REPLY_ROOM, CallError::NoFrame);
+            let given = Card::from(table.clone()).call_from(start, &setup(), Verdict::Held);
+            assert_eq!(given.map(|reply| reply.status()), Ok(Status::Success));
+        }
+    }
+    let given = Card::blank(2).call_from(2, &setup(), Verdict::Held);
+    assert_eq!(given, Err(Error::Call(CallError::StartOutside)));
 }
 
 /// The listing refuses a table with the number that the agent refuses it with.
@@ -258,13 +320,14 @@ fn errors_are_errors_with_their_numbers() {
         CallError::TableLength,
         CallError::TableNotWellFormed,
         CallError::NoFrame,
+        CallError::StartOutside,
     ];
     let mut errors: Vec<Error> = calls.map(Error::from).to_vec();
     errors.extend([WriteError::BufferShort, WriteError::Fields].map(Error::from));
     errors.push(ReadError.into());
     errors.extend([TurnError::TableLength, TurnError::TableNotWellFormed].map(Error::from));
     let numbers: Vec<u16> = errors.iter().map(|error| error.number()).collect();
-    assert_eq!(numbers, [101, 102, 103, 104, 201, 202, 203, 102, 103]);
+    assert_eq!(numbers, [101, 102, 103, 104, 105, 201, 202, 203, 102, 103]);
     for error in errors {
         let error: Box<dyn std::error::Error + Send + Sync> = error.into();
         assert!(error.to_string().starts_with("the "), "{error}");

@@ -24,11 +24,11 @@ fn ask<A>(
 }
 
 /// `cavernlull_call`.
-pub(crate) fn call(table: &mut [u8], frame: &[u8], reply: &mut [u8]) -> u16 {
+pub(crate) fn call(table: &mut [u8], start: usize, frame: &[u8], reply: &mut [u8]) -> u16 {
     let given = ask(
         |commands| {
             commands.table(table)?;
-            commands.call(frame, reply)
+            commands.call(start as u64, frame, reply)
         },
         Answers::call,
     );

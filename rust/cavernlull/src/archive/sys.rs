@@ -15,6 +15,7 @@ extern "C" {
     fn cavernlull_call(
         table: *mut u8,
         table_length: usize,
+        start: usize,
         frame: *const u8,
         frame_length: usize,
         reply: *mut u8,
@@ -51,13 +52,14 @@ extern "C" {
 }
 
 /// `cavernlull_call`.
-pub(crate) fn call(table: &mut [u8], frame: &[u8], reply: &mut [u8]) -> u16 {
+pub(crate) fn call(table: &mut [u8], start: usize, frame: &[u8], reply: &mut [u8]) -> u16 {
     // SAFETY: each pointer is that of a slice, with its length; `table` and
     // `reply` are borrowed to be changed, so no two of the three overlap.
     unsafe {
         cavernlull_call(
             table.as_mut_ptr(),
             table.len(),
+            start,
             frame.as_ptr(),
             frame.len(),
             reply.as_mut_ptr(),
