@@ -10,6 +10,7 @@
 //! | | |
 //! |---|---|
 //! | [`Card`] | a table of slots, and the agent that answers requests about it |
+//! | [`Rotation`] | where setups begin to look for an empty slot, so that all slots wear alike |
 //! | [`Request`] | a request of one of nine [kinds](Kind), and its frame |
 //! | [`Reply`] | what the card answered, read from the frame of a reply |
 //! | [`Listing`] | what is in the slots, as text |
@@ -75,6 +76,7 @@ mod listing;
 mod reply;
 mod request;
 mod right;
+mod rotation;
 mod status;
 mod verdict;
 
@@ -85,6 +87,7 @@ pub use listing::Listing;
 pub use reply::Reply;
 pub use request::Request;
 pub use right::{AssetHash, Handle, Key, Right};
+pub use rotation::Rotation;
 pub use status::Status;
 pub use verdict::Verdict;
 
