@@ -26,6 +26,9 @@ const LAST: Handle = Handle(*b"CUTTING-03");
 const FIRST_LENT: Handle = Handle(*b"LENT-TO-43");
 const SECOND_LENT: Handle = Handle(*b"LENT-TO-44");
 
+/// The handle of a course that is to come.
+const NEXT: Handle = Handle(*b"FORGING-05");
+
 fn step(title: &'static str, request: Request, expected: Status, why: &'static str) -> Step {
     Step {
         title,
@@ -115,9 +118,11 @@ fn using_up() -> Vec<Step> {
     ]
 }
 
-/// All courses are removed.
+/// All courses are removed. Room for one more is not in the slot that the first
+/// one leaves, but in the one after the last that was taken.
 fn removing() -> Vec<Step> {
     let remove = |handle| Request::RightsRemoval { handle };
+    let give_up = Request::HandleRemoval { handle: NEXT };
     vec![
         step(
             "The first course is removed",
@@ -126,7 +131,19 @@ fn removing() -> Vec<Step> {
             "Every byte of its slot is 0, the key too.",
         ),
         step(
-            "So is the one that is used up",
+            "Room for the next course",
+            setup(NEXT, 24),
+            Status::Success,
+            "It is in the slot after the last one taken, so that all slots wear alike.",
+        ),
+        step(
+            "The next course does not come, and its room is given up",
+            give_up,
+            Status::Success,
+            "The slot is empty again.",
+        ),
+        step(
+            "The course that is used up is removed",
             remove(SECOND_LENT),
             Status::Success,
             "A course can be removed also while it is lent.",
@@ -135,7 +152,7 @@ fn removing() -> Vec<Step> {
             "So is the other",
             remove(OTHER),
             Status::Success,
-            "The card is as blank as at the start.",
+            "The card is blank again.",
         ),
     ]
 }
@@ -151,7 +168,7 @@ fn loading() -> Vec<Step> {
             "Room is set up for a course",
             setup(COURSE, 24),
             Status::Success,
-            "The lowest empty slot is reserved under the course's handle.",
+            "The search begins at slot 0, which is empty. It is reserved under the course's handle.",
         ),
         step(
             "The course is installed",
@@ -169,7 +186,7 @@ fn loading() -> Vec<Step> {
             "Room for another course",
             setup(OTHER, 24),
             Status::Success,
-            "The next empty slot is reserved.",
+            "The next slot is reserved.",
         ),
         step(
             "The other course is installed",

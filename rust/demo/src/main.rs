@@ -6,13 +6,13 @@
 mod course;
 mod screen;
 
-use cavernlull::{Card, Error, Handle, Reply, Request, Status};
+use cavernlull::{Card, Error, Handle, Reply, Request, Rotation, Status};
 use course::Step;
 use screen::Screen;
 use std::io::{self, IsTerminal, Write};
 
 /// How many slots the card has.
-const SLOTS: usize = 3;
+const SLOTS: usize = 4;
 
 fn main() -> io::Result<()> {
     let screen = Screen::new(io::stdout().is_terminal());
@@ -22,24 +22,29 @@ fn main() -> io::Result<()> {
 
 /// The whole walk as text.
 fn walk(screen: &Screen) -> Result<String, Error> {
-    let mut card = Card::blank(SLOTS);
+    let (mut card, mut rotation) = (Card::blank(SLOTS), Rotation::new());
     let mut text = screen.title(&format!("One course on a card of {SLOTS} slots"));
     text += &screen.listing(&card.listing());
     for (index, step) in course::steps().iter().enumerate() {
         text += &screen.heading(index + 1, step.title);
-        text += &shown(screen, &mut card, step)?;
+        text += &shown(screen, &mut card, &mut rotation, step)?;
     }
     Ok(text)
 }
 
 /// One step: the request, the reply and the listing.
-fn shown(screen: &Screen, card: &mut Card, step: &Step) -> Result<String, Error> {
+fn shown(
+    screen: &Screen,
+    card: &mut Card,
+    rotation: &mut Rotation,
+    step: &Step,
+) -> Result<String, Error> {
     let frame = step.request.to_frame()?;
+    let mut text = screen.frame("request", &frame, &asked(&step.request, rotation.start()));
     let mut buffer = [0; cavernlull::REPLY_ROOM];
-    let answer = card.call_frame(&frame, &mut buffer)?;
+    let answer = rotation.call_frame(card, &frame, &mut buffer)?;
     let reply = Reply::read(answer)?;
     assert_eq!(reply.status(), step.expected, "{}", step.title);
-    let mut text = screen.frame("request", &frame, &asked(&step.request));
     text += &screen.reply(answer, &answered(&reply), reply.status() == Status::Success);
     text += &screen.note(step.why);
     text += &screen.listing(&card.listing());
@@ -59,12 +64,13 @@ fn counted(count: Option<u16>) -> String {
     }
 }
 
-/// A request in words.
-fn asked(request: &Request) -> String {
+/// A request in words, with the slot at which a setup begins to look.
+fn asked(request: &Request, start: usize) -> String {
     let kind = request.kind();
     match request {
         Request::InstallationSetup { handle, room } => {
-            format!("{kind}: keep {room} bytes under {}", name(handle))
+            let name = name(handle);
+            format!("{kind}: keep {room} bytes under {name}, from slot {start} on")
         }
         Request::RightsInstallation { handle, right } => format!(
             "{kind}: {} bytes with {} under {}",
@@ -137,6 +143,21 @@ mod tests {
         let reply = text.split("and a count of 0\n").nth(1);
         let reply = reply.expect("one reply has it").trim_start();
         assert!(reply.starts_with("23 80 "), "{reply}");
+    }
+
+    /// The slot of the first course is empty, and the next course comes into the
+    /// one after the last that was taken.
+    #[test]
+    fn the_next_course_comes_into_the_next_slot() {
+        let text = walk(&Screen::new(false)).expect("it walks");
+        let step = text.split("Room for the next course\n").nth(1);
+        let step = step.expect("there is such a step");
+        let (asked, listed) = step.split_once("slot place").expect("it is listed");
+        assert!(asked.contains("from slot 3 on"), "{asked}");
+        let lines = listed.lines().skip(1).take(super::SLOTS);
+        let places: Vec<&str> = lines.map(|line| line.trim_start()).collect();
+        assert!(places[0].starts_with("0 empty"), "{places:?}");
+        assert_eq!(places[3], "3 reserved 0 0 24");
     }
 
     #[test]
