@@ -24,6 +24,6 @@ int main(int words, char **word) {
     memcpy(table, scenario.table, TABLE);
     for (unsigned times = number(word[3]); times > 0; times--)
         for (size_t i = 0; i < scenario.count; i++)
-            agents[who].call(table, TABLE, scenario.steps[i].frame, scenario.steps[i].length, reply, REPLY);
+            agents[who].call(table, TABLE, scenario.start, scenario.steps[i].frame, scenario.steps[i].length, reply, REPLY);
     return 0;
 }

@@ -25,7 +25,7 @@ static uint8_t table[TABLE], reply[REPLY];
 static uint16_t cycle(agent_function *call) {
     uint16_t number = 0;
     for (size_t i = 0; i < scenario.count; i++)
-        number |= call(table, TABLE, scenario.steps[i].frame, scenario.steps[i].length, reply, REPLY);
+        number |= call(table, TABLE, scenario.start, scenario.steps[i].frame, scenario.steps[i].length, reply, REPLY);
     return number;
 }
 
@@ -37,7 +37,8 @@ static void must_agree(void) {
         memset(replies[k > 0], 0xa5, REPLY);
         for (size_t i = 0; i < scenario.count; i++) {
             const struct step *step = &scenario.steps[i];
-            uint16_t number = agents[k].call(tables[k > 0], TABLE, step->frame, step->length, replies[k > 0], REPLY);
+            uint16_t number =
+                agents[k].call(tables[k > 0], TABLE, scenario.start, step->frame, step->length, replies[k > 0], REPLY);
             unsigned status = replies[k > 0][1] & 0x7f; /* beside the bit of a kept count */
             if (number != scenario.number || (number == 0 && status != 0)) goto differs;
         }

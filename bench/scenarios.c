@@ -43,12 +43,20 @@ static void fill(struct scenario *s, unsigned slots, size_t length) {
     for (unsigned i = 0; i < slots; i++) put_slot(s->table + SLOT * i, ENABLED, 2, length);
 }
 
+/* The same, but the slot before the start is empty: a setup comes to it last. */
+static void fill_but_the_last_searched(struct scenario *s, size_t length) {
+    s->start = 7;
+    fill(s, SLOTS, length);
+    memset(s->table + SLOT * 6, 0, SLOT);
+}
+
 static void fill_with_hashes(struct scenario *s) {
     for (unsigned i = 0; i < SLOTS; i++) put_slot(s->table + SLOT * i, ENABLED, 8, 100);
 }
 
-/* Handles that differ in one of their ten bytes. */
-static void make_handles_alike(struct scenario *s, unsigned but) {
+/* Fills all slots, under handles that differ in one of their ten bytes. */
+static void fill_under_like_handles(struct scenario *s, size_t length, unsigned but) {
+    fill(s, SLOTS, length);
     for (unsigned i = 0; i < SLOTS; i++) {
         memset(s->table + SLOT * i + 1, 7, 10);
         s->table[SLOT * i + 1 + but] = (uint8_t)i;
@@ -121,24 +129,27 @@ int make_scenario(struct scenario *s, unsigned index) {
     case 4: s->name = "full, 4,096 bytes each, REK query and return"; fill(s, 15, 4096); ask_to_lend(s); break;
     case 5: s->name = "15 reservations, list query"; reserve(s); ask_list(s); break;
     case 6: s->name = "set-up to removal of 4,096 bytes, with 14 of 100"; fill(s, 14, 100); ask_to_install(s); break;
-    case 7: s->name = "full, 8 hashes each, list query of 8 others"; fill_with_hashes(s); ask_list_of_others(s); break;
-    case 8:
+    case 7:
+        s->name = "set-up to removal of 4,096 bytes, with 14 of 100, from slot 7 round to slot 6";
+        fill_but_the_last_searched(s, 100);
+        ask_to_install(s);
+        break;
+    case 8: s->name = "full, 8 hashes each, list query of 8 others"; fill_with_hashes(s); ask_list_of_others(s); break;
+    case 9:
         s->name = "full, 100 bytes each, refused with 103 at the last byte";
         fill(s, 15, 100);
         s->table[TABLE - 1] = 1;
         s->number = 103;
         ask_list(s);
         break;
-    case 9:
+    case 10:
         s->name = "full, 100 bytes each, handles that differ in the last byte, list query";
-        fill(s, 15, 100);
-        make_handles_alike(s, 9);
+        fill_under_like_handles(s, 100, 9);
         ask_list(s);
         break;
-    case 10:
+    case 11:
         s->name = "full, 100 bytes each, handles that differ in the last byte but one, list query";
-        fill(s, 15, 100);
-        make_handles_alike(s, 8);
+        fill_under_like_handles(s, 100, 8);
         ask_list(s);
         break;
     default: return 0;

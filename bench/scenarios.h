@@ -12,12 +12,12 @@ struct step {
     size_t length;
 };
 
-/* A table, and requests that leave it, taken together, as it was. `number` is what each call gives. */
+/* A table, and requests that leave it, taken together, as it was. `start` is that of each call, and `number` what it gives. */
 struct scenario {
     const char *name;
     uint8_t table[TABLE];
     struct step steps[MOST_STEPS];
-    size_t count;
+    size_t count, start;
     uint16_t number;
 };
 

@@ -1,8 +1,9 @@
 /* A coverage-guided fuzz target for the exported functions. An input is a program: the length of the table, and then what is
- * done with it: requests of every kind, frames of any bytes, changes to bytes of the table, and turnings. After each call the
- * number, the reply buffer and the table must be those of the agent in C (counterparts/c/agent.c); after each turning, number
- * and table must be those of the turning below; every request that is written must have the kind and the count's bit asked for,
- * and the verdict 1; and every reply must be one that the reply reader takes.
+ * done with it: requests of every kind and frames of any bytes, each from a start, changes to bytes of the table, and
+ * turnings. After each call the number, the reply buffer and the table must be those of the agent in C
+ * (counterparts/c/agent.c); after each turning, number and table must be those of the turning below; every request that is
+ * written must have the kind and the count's bit asked for, and the verdict 1; and every reply must be one that the reply
+ * reader takes.
  *
  * All memory is lent in allocations of exactly its length, so that the address sanitiser sees any access outside it.
  */
@@ -12,7 +13,7 @@
 
 #include "cavernlull.h"
 
-uint16_t c_agent(uint8_t *, size_t, const uint8_t *, size_t, uint8_t *, size_t);
+uint16_t c_agent(uint8_t *, size_t, size_t, const uint8_t *, size_t, uint8_t *, size_t);
 
 enum { SLOT = CAVERNLULL_SLOT_BYTES, HANDLE = CAVERNLULL_HANDLE_BYTES, HASH = CAVERNLULL_HASH_BYTES };
 
@@ -59,11 +60,19 @@ struct tables {
     size_t length;
 };
 
-static uint16_t call(struct tables *t, const uint8_t *bytes, size_t length, size_t room) {
+/* A start: a slot of the table as a rule, else a number up to 15, or one with its low bits or its high bits 0. */
+static size_t take_start(struct input *in, const struct tables *t) {
+    size_t how = take(in), slots = t->length / SLOT;
+    if (how < 224 && slots > 0) return how % slots;
+    if (how < 240) return how % 16;
+    return (size_t)take_word(in) << 4 * (how - 240);
+}
+
+static uint16_t call(struct tables *t, size_t start, const uint8_t *bytes, size_t length, size_t room) {
     uint8_t *frame = lent(length, 0), *reply = lent(room, 0xa5), *other = lent(room, 0xa5);
     if (length) memcpy(frame, bytes, length);
-    uint16_t number = cavernlull_call(t->ours, t->length, frame, length, reply, room);
-    if (number != c_agent(t->theirs, t->length, frame, length, other, room)) abort();
+    uint16_t number = cavernlull_call(t->ours, t->length, start, frame, length, reply, room);
+    if (number != c_agent(t->theirs, t->length, start, frame, length, other, room)) abort();
     same(reply, other, room);
     same(t->ours, t->theirs, t->length);
     if (number == 0) {
@@ -117,11 +126,17 @@ static uint16_t plain_turn(uint8_t *table, size_t length) {
 
 /* ---- what an input can do */
 static void any_frame(struct input *in, struct tables *t) {
-    size_t length = take(in);
+    size_t start = take_start(in, t), length = take(in);
     if (length > in->left) length = in->left;
-    call(t, in->at, length, CAVERNLULL_REPLY_ROOM);
+    call(t, start, in->at, length, CAVERNLULL_REPLY_ROOM);
     in->at += length;
     in->left -= length;
+}
+
+/* The input itself as a frame, and a reply buffer of any length. */
+static void whole_input(struct input *in, struct tables *t, const uint8_t *bytes, size_t length) {
+    size_t start = take_start(in, t), room = take_length(in);
+    call(t, start, bytes, length, room);
 }
 
 /* The fields of a request; those that its kind lacks stay blank. */
@@ -157,7 +172,7 @@ static void request(struct input *in, struct tables *t, unsigned kind) {
                                  payload, f.payload, out, sizeof out) != 0) return;
     if (f.kept > 1 || (f.count != 0 && f.kept == 0)) abort();
     if ((out[0] & 31) != kind || out[1] != (f.kept ? 0x80 | CAVERNLULL_KEPT_IN_REQUEST : 0x80)) abort();
-    call(t, out, 4 + (size_t)(out[2] << 8 | out[3]), CAVERNLULL_REPLY_ROOM + (names & 1));
+    call(t, take_start(in, t), out, 4 + (size_t)(out[2] << 8 | out[3]), CAVERNLULL_REPLY_ROOM + (names & 1));
 }
 
 /* Changes a byte of the table: one that a rule is about, or any. */
@@ -211,7 +226,7 @@ int LLVMFuzzerTestOneInput(const uint8_t *bytes, size_t length) {
         else if (what == 10) change(&in, &t);
         else if (what == 11) list(&t);
         else if (what == 12) any_reply(&in);
-        else if (what == 13) call(&t, bytes, length, take_length(&in));
+        else if (what == 13) whole_input(&in, &t, bytes, length);
         else if (what == 14) turn(&in, &t);
         else any_frame(&in, &t);
     }

@@ -133,19 +133,25 @@ static size_t put_right(uint8_t *body, const uint8_t *s) {
 /* ---- what each kind does: it gives a status and, at success, sets the length of the body that it wrote, and the count's bit
  * of the reply */
 struct call {
-    uint8_t *table, *end, *reply;
+    uint8_t *table, *start, *end, *reply;
     const uint8_t *body;
     size_t n, given;
     unsigned kept, told;
 };
 
+/* The first empty slot from slot `s` on; `end` where there is none. */
+static uint8_t *find_empty(uint8_t *s, const uint8_t *end) {
+    while (s < end && place_of(s) != EMPTY) s += SLOT;
+    return s;
+}
+
 static unsigned set_up(struct call *c) {
     unsigned length = word(c->body + HANDLE);
     if (length == 0) return PARAMETER;
     if (find(c->table, c->end, c->body) < c->end) return DUPLICATE;
-    uint8_t *s = c->table;
-    while (s < c->end && place_of(s) != EMPTY) s += SLOT;
-    if (length > PAYLOAD || s == c->end) return NO_SPACE;
+    uint8_t *s = find_empty(c->start, c->end);
+    if (s == c->end) s = find_empty(c->table, c->start);
+    if (length > PAYLOAD || place_of(s) != EMPTY) return NO_SPACE;
     s[0] = RESERVED << 6;
     memcpy(s + AT_HANDLE, c->body, HANDLE);
     put_word(s + AT_LENGTH, length);
@@ -240,12 +246,13 @@ static unsigned serve(struct call *c, unsigned kind) {
     }
 }
 
-uint16_t AGENT(uint8_t *table, size_t size, const uint8_t *frame, size_t n, uint8_t *reply, size_t room) {
+uint16_t AGENT(uint8_t *table, size_t size, size_t start, const uint8_t *frame, size_t n, uint8_t *reply, size_t room) {
     if (room < REPLY) return 101;
     if (size == 0 || size % SLOT != 0 || size > SLOTS * SLOT) return 102;
+    if (start >= size / SLOT) return 105;
     if (!well_table(table, table + size)) return 103;
     if (n < 4 || n - 4 != word(frame + 2)) return 104;
-    struct call c = {table, table + size, reply, frame + 4, n - 4, 0, kept_asked(frame), 0};
+    struct call c = {table, table + SLOT * start, table + size, reply, frame + 4, n - 4, 0, kept_asked(frame), 0};
     unsigned status = request_status(frame, n);
     if (status == SUCCESS) status = serve(&c, frame[0] & 31);
     reply_head(reply, frame[0] & 31, status | c.told, status == SUCCESS ? c.given : 0);

@@ -13,14 +13,18 @@ use requests::Status;
 /// The shortest reply buffer.
 const REPLY: usize = 4279;
 
-/// One call: gives the number, writes the reply and changes the table.
-pub fn call(table: &mut [u8], frame: &[u8], reply: &mut [u8]) -> u16 {
+/// One call: gives the number, writes the reply and changes the table. A setup
+/// begins to look for an empty slot at `start`.
+pub fn call(table: &mut [u8], start: usize, frame: &[u8], reply: &mut [u8]) -> u16 {
     let Some(reply) = reply.first_chunk_mut::<REPLY>() else {
         return 101;
     };
     let Some(slots) = slots::whole(table) else {
         return 102;
     };
+    if start >= slots.len() {
+        return 105;
+    }
     if !slots::well(slots) {
         return 103;
     }
@@ -28,7 +32,8 @@ pub fn call(table: &mut [u8], frame: &[u8], reply: &mut [u8]) -> u16 {
         return 104;
     };
     let kind = head[0] & 31;
-    let answer = requests::test(head, body).and_then(|()| rights::serve(slots, head, body, reply));
+    let answer =
+        requests::test(head, body).and_then(|()| rights::serve(slots, start, head, body, reply));
     let (status, length) = match answer {
         Ok(given) => (given.kept, given.length),
         Err(status) => (status as u8, 0),
@@ -65,6 +70,7 @@ type Answer = Result<Given, Status>;
 pub unsafe extern "C" fn rust_call(
     table: *mut u8,
     table_length: usize,
+    start: usize,
     frame: *const u8,
     frame_length: usize,
     reply: *mut u8,
@@ -78,5 +84,5 @@ pub unsafe extern "C" fn rust_call(
             std::slice::from_raw_parts_mut(reply, reply_length),
         )
     };
-    call(table, frame, reply)
+    call(table, start, frame, reply)
 }

@@ -13,10 +13,16 @@ type Reply = [u8; REPLY];
 
 /// Carries out a request that passed its tests, and writes its reply's body
 /// into the buffer, after the head.
-pub fn serve(slots: &mut [Slot], head: &[u8; 4], body: &[u8], reply: &mut Reply) -> Answer {
+pub fn serve(
+    slots: &mut [Slot],
+    start: usize,
+    head: &[u8; 4],
+    body: &[u8],
+    reply: &mut Reply,
+) -> Answer {
     let kind = head[0] & 31;
     match kind {
-        1 => return set_up(slots, body),
+        1 => return set_up(slots, start, body),
         8 => return list(slots, body, reply),
         _ => {}
     }
@@ -48,7 +54,7 @@ fn kept_told(s: &Slot) -> u8 {
     (s[0] & slots::KEPT) << 6
 }
 
-fn set_up(slots: &mut [Slot], body: &[u8]) -> Answer {
+fn set_up(slots: &mut [Slot], start: usize, body: &[u8]) -> Answer {
     let room = u16::from_be_bytes([body[10], body[11]]);
     if room == 0 {
         return Err(Status::Parameter);
@@ -56,8 +62,11 @@ fn set_up(slots: &mut [Slot], body: &[u8]) -> Answer {
     if find(slots, first(body)).is_some() {
         return Err(Status::Duplicate);
     }
-    let empty = slots.iter_mut().find(|s| place(s) == EMPTY);
-    let s = empty
+    let (before, after) = slots.split_at_mut(start);
+    let s = after
+        .iter_mut()
+        .chain(before)
+        .find(|s| place(s) == EMPTY)
         .filter(|_| usize::from(room) <= PAYLOAD)
         .ok_or(Status::NoSpace)?;
     s[0] = RESERVED << 6;
