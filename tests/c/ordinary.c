@@ -1,6 +1,7 @@
 /* An ordinary C program that links libcavernlull.a, as a front end or a device does: one course on its way through a card of
  * two slots. It is set up, installed, listed, lent, refused a second time and under a handle in use, returned and removed. Then
- * it has a count of 1, which is used up and stays so; and it is on an old card, whose table is turned.
+ * it is set up with other starts, and in one slot after the other; it has a count of 1, which is used up and stays so; and it
+ * is on an old card, whose table is turned.
  *
  * Each step is checked against what the header promises: the number, every byte of the reply buffer, every byte of the table,
  * what the reply reader reads in the reply, and the listing. The expected bytes are written here by hand. The program prints
@@ -12,7 +13,8 @@
 #include <stdlib.h>
 #include <string.h>
 
-enum { TABLE_BYTES = 2 * CAVERNLULL_SLOT_BYTES, REQUEST_ROOM = 4289, FILLER = 0xA5, KEY = 0xC5, PAYLOAD_AT = 192 };
+enum { SLOTS = 2, TABLE_BYTES = SLOTS * CAVERNLULL_SLOT_BYTES };
+enum { REQUEST_ROOM = 4289, FILLER = 0xA5, KEY = 0xC5, PAYLOAD_AT = 192 };
 enum place { EMPTY, RESERVED, ENABLED, DISABLED };
 
 static const uint8_t none[16];
@@ -22,6 +24,7 @@ static const uint8_t payload[] = {'w', 'e', 'l', 'd', 'i', 'n', 'g'};
 static uint8_t key[CAVERNLULL_KEY_BYTES], hashes[2 * CAVERNLULL_HASH_BYTES];
 
 static uint8_t table[TABLE_BYTES], expected[TABLE_BYTES];
+static size_t start; /* of the calls */
 static uint8_t frame[REQUEST_ROOM], reply[CAVERNLULL_REPLY_ROOM + 1];
 static uint16_t fields[CAVERNLULL_REPLY_NUMBERS];
 static int checks;
@@ -104,7 +107,7 @@ static void write_list(uint16_t limit) {
 static void call_telling(uint8_t kept_bit, uint8_t status, const uint8_t *body, size_t body_length) {
     uint8_t sent_key[CAVERNLULL_KEY_BYTES];
     memset(reply, FILLER, sizeof reply);
-    CHECK(cavernlull_call(table, sizeof table, frame, length_of(frame), reply, sizeof reply) == CAVERNLULL_DONE);
+    CHECK(cavernlull_call(table, sizeof table, start, frame, length_of(frame), reply, sizeof reply) == CAVERNLULL_DONE);
     CHECK(reply[0] == frame[0]);
     CHECK(reply[1] == (kept_bit | status));
     CHECK(length_of(reply) == 4 + body_length);
@@ -240,6 +243,63 @@ static void removes(void) {
     listed("0 empty 0 0 0\n1 empty 0 0 0\n");
 }
 
+/* ---- starts: a setup looks for an empty slot from the start upward, and then from slot 0 up to the slot before it */
+static void starts(void) {
+    start = 1;
+    write_plain(CAVERNLULL_INSTALLATION_SETUP, course, none, 300);
+    put_reserved(1, course, 300);
+    done();
+    write_plain(CAVERNLULL_INSTALLATION_SETUP, other, none, 300);
+    put_reserved(0, other, 300); /* slot 1 is taken */
+    done();
+    write_plain(CAVERNLULL_INSTALLATION_SETUP, borrower, none, 1);
+    refused(CAVERNLULL_NOT_ENOUGH_SPACE);
+    listed("0 reserved 0 0 300\n1 reserved 0 0 300\n");
+    write_installation(course, no_count);
+    put_slot(1, ENABLED, course, no_count, sizeof payload);
+    done();
+    write_installation(other, no_count);
+    put_slot(0, ENABLED, other, no_count, sizeof payload);
+    done();
+    uint8_t body[1 + 2 * CAVERNLULL_HANDLE_BYTES] = {0}; /* in the order of the slots */
+    memcpy(body + 1, other, sizeof other);
+    memcpy(body + 1 + sizeof other, course, sizeof course);
+    write_list(0);
+    call(CAVERNLULL_SUCCESS, body, sizeof body);
+    write_plain(CAVERNLULL_RIGHTS_REMOVAL, course, none, 0);
+    memset(expected + CAVERNLULL_SLOT_BYTES, 0, CAVERNLULL_SLOT_BYTES);
+    done();
+    write_plain(CAVERNLULL_RIGHTS_REMOVAL, other, none, 0);
+    memset(expected, 0, sizeof expected);
+    done();
+    start = 0;
+}
+
+/* The slot of the record under a handle. */
+static size_t slot_of(const uint8_t *handle) {
+    size_t slot = 0;
+    for (; slot < SLOTS; slot++) {
+        const uint8_t *bytes = table + slot * CAVERNLULL_SLOT_BYTES;
+        if (bytes[0] != 0 && memcmp(bytes + 1, handle, CAVERNLULL_HANDLE_BYTES) == 0) break;
+    }
+    return slot;
+}
+
+/* The start of each setup is the slot after the one that the last setup took: all slots wear alike. */
+static void wears_alike(void) {
+    for (int setup = 0; setup < 2 * SLOTS; setup++) {
+        write_plain(CAVERNLULL_INSTALLATION_SETUP, course, none, 300);
+        put_reserved(setup % SLOTS, course, 300);
+        done();
+        CHECK(slot_of(course) == (size_t)setup % SLOTS);
+        start = (slot_of(course) + 1) % SLOTS;
+        write_plain(CAVERNLULL_HANDLE_REMOVAL, course, none, 0);
+        memset(expected, 0, sizeof expected);
+        done();
+    }
+    CHECK(start == 0);
+}
+
 /* ---- counts: the course is installed with `first`, lent, returned with `then` and lent again: `then` is what goes out */
 static void counts(struct count first, struct count then) {
     write_plain(CAVERNLULL_INSTALLATION_SETUP, course, none, 300);
@@ -292,7 +352,7 @@ static void turns(void) {
 /* ---- a refusal leaves all lent memory as it was */
 static void call_refused(uint16_t number, size_t table_length, size_t frame_length, size_t reply_length) {
     memset(reply, FILLER, sizeof reply);
-    CHECK(cavernlull_call(table, table_length, frame, frame_length, reply, reply_length) == number);
+    CHECK(cavernlull_call(table, table_length, start, frame, frame_length, reply, reply_length) == number);
     CHECK(filled(reply, sizeof reply, FILLER));
     CHECK(memcmp(table, expected, sizeof table) == 0);
 }
@@ -307,6 +367,25 @@ static void call_refusals(void) {
     table[TABLE_BYTES - 1] = expected[TABLE_BYTES - 1] = 1; /* an empty slot with a byte set */
     call_refused(CAVERNLULL_TABLE_NOT_WELL_FORMED, TABLE_BYTES, 3, CAVERNLULL_REPLY_ROOM);
     table[TABLE_BYTES - 1] = expected[TABLE_BYTES - 1] = 0;
+}
+
+/* A start outside the card is refused after a short buffer and a table's length, and before all else, whatever the frame. */
+static void start_refusals(void) {
+    static const size_t outside[] = {SLOTS, SLOTS + 1, (size_t)1 << 32, (size_t)1 << 58, (size_t)-1};
+    for (size_t i = 0; i < sizeof outside / sizeof outside[0]; i++) {
+        start = outside[i];
+        write_plain(CAVERNLULL_INSTALLATION_SETUP, course, none, 5);
+        call_refused(CAVERNLULL_REPLY_BUFFER_SHORT, TABLE_BYTES, 16, CAVERNLULL_REPLY_ROOM - 1);
+        call_refused(CAVERNLULL_TABLE_LENGTH, TABLE_BYTES - 1, 16, CAVERNLULL_REPLY_ROOM);
+        call_refused(CAVERNLULL_START_OUTSIDE, TABLE_BYTES, 16, CAVERNLULL_REPLY_ROOM);
+        call_refused(CAVERNLULL_START_OUTSIDE, TABLE_BYTES, 3, CAVERNLULL_REPLY_ROOM);
+        write_list(0);
+        call_refused(CAVERNLULL_START_OUTSIDE, TABLE_BYTES, length_of(frame), CAVERNLULL_REPLY_ROOM);
+        table[TABLE_BYTES - 1] = expected[TABLE_BYTES - 1] = 1; /* an empty slot with a byte set */
+        call_refused(CAVERNLULL_START_OUTSIDE, TABLE_BYTES, length_of(frame), CAVERNLULL_REPLY_ROOM);
+        table[TABLE_BYTES - 1] = expected[TABLE_BYTES - 1] = 0;
+    }
+    start = 0;
 }
 
 /* A request of a kind with a handle, a count, its bit and a room, and with nothing else, into a buffer of 13 bytes. */
@@ -352,12 +431,15 @@ int main(void) {
     takes_back();
     lists(borrower);
     removes();
+    starts();
+    wears_alike();
     counts(kept(1), kept(0)); /* used up, and not free */
     counts(no_count, no_count);
     counts(kept(0xFFFF), no_count);
     counts(no_count, kept(256));
     turns();
     call_refusals();
+    start_refusals();
     writer_refusals();
     reader_refusals();
     printf("ordinary: %d checks hold\n", checks);

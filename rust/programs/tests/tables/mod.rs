@@ -56,13 +56,14 @@ pub fn reserved(handle: u8, length: u16) -> Vec<u8> {
     right(Place::Reserved, handle, 0, Count::NotKept, length)
 }
 
-/// The status of a request that the reference carries out on a table.
+/// The status of a request that the reference carries out on a table. A setup
+/// takes the lowest empty slot.
 pub fn ask(table: &mut [u8], kind: u8, fields: &WriterFields<'_>) -> u8 {
     let mut frame = vec![0; 4400];
     assert_eq!(write_request(kind, fields, &mut frame), 0);
     let body = usize::from(u16::from_be_bytes([frame[2], frame[3]]));
     let mut reply = vec![0; REPLY_ROOM];
-    assert_eq!(call(table, &frame[..4 + body], &mut reply), 0);
+    assert_eq!(call(table, 0, &frame[..4 + body], &mut reply), 0);
     reply[1] % 128
 }
 
