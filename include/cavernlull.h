@@ -20,10 +20,10 @@ extern "C" {
 #endif
 
 /* The version of the library. */
-#define CAVERNLULL_VERSION_MAJOR 4
+#define CAVERNLULL_VERSION_MAJOR 5
 #define CAVERNLULL_VERSION_MINOR 0
 #define CAVERNLULL_VERSION_PATCH 0
-#define CAVERNLULL_VERSION "4.0.0"
+#define CAVERNLULL_VERSION "5.0.0"
 
 /* Sizes in bytes, and the most slots and hashes (PROFILE 1.3). */
 enum {
@@ -46,6 +46,7 @@ enum {
     CAVERNLULL_TABLE_NOT_WELL_FORMED = 103,
     CAVERNLULL_NO_FRAME = 104,
     CAVERNLULL_START_OUTSIDE = 105,
+    CAVERNLULL_TALLY_DIFFERS = 106,
     CAVERNLULL_WRITER_BUFFER_SHORT = 201,
     CAVERNLULL_WRITER_FIELDS = 202,
     CAVERNLULL_NO_REPLY = 203
@@ -86,9 +87,18 @@ enum {
     CAVERNLULL_KEPT_IN_REPLY = 0x80    /* in a reply's second byte, for a success of kinds 3 and 9; else 0 */
 };
 
+/* The tally of a table (PROFILE 2.8): how many of its slots are empty, reserved, enabled and disabled, and how many payload
+ * bytes the enabled and disabled ones hold. That of a blank card of n slots is {n, 0, 0, 0, 0}. */
+struct cavernlull_tally {
+    uint16_t empty, reserved, enabled, disabled, payload;
+};
+
 /* The card agent (PROFILE 1.1): answers one request frame about a table of 1 to 15 slots. A table of zeros is a blank card.
  * Before the call, the front end has checked the frame's MAC, put its verdict into the highest bit of the frame's second byte,
  * and decrypted the fields.
+ *
+ * `tally` is the tally of the table. It is kept beside the table and lent with each call, which brings it up to date: after the
+ * call it is the tally of the table as it then is. One who has a table and no tally gets it from `cavernlull_tally`.
  *
  * `start` is a slot, counted from 0. An Installation Setup looks for an empty slot from there upward and, after the last slot,
  * from slot 0 up to the slot before `start`. It takes the first that is empty, and finds none only where every slot is taken.
@@ -97,20 +107,30 @@ enum {
  * with each call, and after each successful setup makes it the slot after the one taken, or 0 after the last slot. The slot
  * taken is the one whose byte 0 is not 0 and whose bytes 1 to 10 are the setup's handle.
  *
- * Returns 0 when it has written the reply at the start of `reply` and changed the table as the request asks. The reply's length
- * is 4 plus the 16-bit number, high byte first, in its third and fourth bytes; the bytes after it keep what they held.
+ * Returns 0 when it has written the reply at the start of `reply` and changed table and tally as the request asks. The reply's
+ * length is 4 plus the 16-bit number, high byte first, in its third and fourth bytes; the bytes after it keep what they held.
  *
- * Otherwise returns the first of these numbers that applies, and changes neither `table` nor `reply`:
+ * Otherwise returns the first of these numbers that applies, and changes neither `table` nor `tally` nor `reply`:
  *   101 CAVERNLULL_REPLY_BUFFER_SHORT     the reply buffer has fewer than 4,279 bytes
  *   102 CAVERNLULL_TABLE_LENGTH           the table is not 1 to 15 slots of 4,288 bytes
  *   105 CAVERNLULL_START_OUTSIDE          `start` is not below the number of slots, whatever the frame
  *   103 CAVERNLULL_TABLE_NOT_WELL_FORMED  a slot is not well formed, by a count without its bit for example, or two records
  *                                         have the same handle
+ *   106 CAVERNLULL_TALLY_DIFFERS          `tally` is not the tally of the table, whatever the frame
  *   104 CAVERNLULL_NO_FRAME               the frame has fewer than 4 bytes, or is not 4 plus its body length long
  * Where the card refuses to carry out the request, the call returns 0, with a reply whose status is not 0.
  */
-uint16_t cavernlull_call(uint8_t *table, size_t table_length, size_t start, const uint8_t *frame, size_t frame_length,
-                         uint8_t *reply, size_t reply_length);
+uint16_t cavernlull_call(uint8_t *table, size_t table_length, struct cavernlull_tally *tally, size_t start,
+                         const uint8_t *frame, size_t frame_length, uint8_t *reply, size_t reply_length);
+
+/* Works out the tally of a table (PROFILE 2.8), for one who has a table and no tally. What `tally` held makes no difference.
+ *
+ * Returns 0 when it has written the five numbers. Otherwise returns the first of these numbers that applies, and leaves
+ * `tally` as it was:
+ *   102 CAVERNLULL_TABLE_LENGTH           the table is not 1 to 15 slots of 4,288 bytes
+ *   103 CAVERNLULL_TABLE_NOT_WELL_FORMED  the table is one that the call refuses with 103
+ */
+uint16_t cavernlull_tally(const uint8_t *table, size_t table_length, struct cavernlull_tally *tally);
 
 /* The device's request writer (PROFILE 6.2): writes the request frame of a kind and its fields at the start of `out`, with
  * the verdict 1. `handle` and `new_handle` are 10 bytes, `key` is 16. A field that the kind lacks must be zero or empty:
