@@ -1,13 +1,14 @@
 -- The words of PROFILE 8.3 mean in the worked cases what is said there, and exclude what is said there: computed.
 use Prim.Native.Nat.{ℕ, zero, suc, _≤_}
 use mathlib.Core.Path.{_≡_, refl, sym, ap}
-use mathlib.Core.List.{List, [], _∷_}
+use mathlib.Core.List.{List, [], _∷_, cons≢nil}
 use mathlib.Core.Option.{some, Option·some-injective}
 use native.Mathlib.Omega.{arith}
 use lib.ListN.{length, getElem?}
 use Rattle.profile.specs.Bytes.{Bytes, byte, zeros, over, In}
 use Rattle.profile.specs.Table.{unpack, image, pack, wellRest, wellSlot, slotBytes, slotsOf, tableOf, wholeSlots, wellTable}
 use Rattle.profile.specs.Slot.{keptBit, countNumber, reserved, enabled, disabled, Slot, empty, taken}
+use Rattle.profile.specs.Tally.{tallyOf}
 use Rattle.profile.specs.Frame.{frame}
 use Rattle.profile.specs.Request.{Request, rek, retrieve, readRequest, numberOf}
 use Rattle.profile.specs.Agent.{firstEmptyFrom, act, replyFrame, agent}
@@ -46,7 +47,7 @@ lends-small by-retrieval = omega arith
 lends-small by-rek = omega arith
 
 pub demands-hold : DemandCases.Hold
-unfolding slotNumber firstStatus firstKind agent wholeSlots zeros wellTable slotBytes wellRest wellSlot slotsOf unpack readRequest over replyFrame frame firstEmptyFrom act tableOf pack image
+unfolding slotNumber firstStatus firstKind agent wholeSlots zeros wellTable slotBytes wellRest wellSlot slotsOf unpack readRequest over replyFrame frame firstEmptyFrom act tableOf pack image tallyOf
 demands-hold =
     record {
       missing = λ r. not-equal 0 2 (λ t. t) (ap slotNumber (in-one (taken H1 (enabled plain)) empty (r .used H1 plain .1 (0, refl))));
@@ -65,6 +66,7 @@ demands-hold =
       by-retrieval = record { asked = retrieve H3 H4; lends = by-retrieval; success = refl };
       absent = λ o. not-equal 4 0 (λ t. t) (ap firstStatus (o .success));
       by-info = λ o. not-over 9 4 (λ t. t) (rw (sym (ap firstKind (o .success))) at (lends-small (o .lends)));
+      other-tally = λ o. cons≢nil (sym (o .success));
       returns = refl;
       refused-return = refl;
       sent = refl;

@@ -3,6 +3,7 @@ use mathlib.Core.Path.{refl, ap}
 use lib.ListN.{length}
 use Rattle.profile.specs.Bytes.{zeros, over}
 use Rattle.profile.specs.Table.{unpack, image, pack, wellRest, wellSlot, slotBytes, slotsOf, tableOf, wholeSlots, wellTable}
+use Rattle.profile.specs.Tally.{tallyOf}
 use Rattle.profile.specs.Frame.{frame}
 use Rattle.profile.specs.Request.{readRequest}
 use Rattle.profile.specs.Agent.{firstEmptyFrom, act, replyFrame, agent}
@@ -11,7 +12,7 @@ use Rattle.profile.specs.HistoryCases
 use Rattle.profile.proofs.Logic.{not-equal, not-over}
 
 pub histories-hold : HistoryCases.Hold
-unfolding HistoryCases.tellings agent wholeSlots zeros wellTable slotBytes wellRest wellSlot slotsOf unpack readRequest over replyFrame frame firstEmptyFrom act tableOf pack image
+unfolding HistoryCases.tellings agent wholeSlots zeros wellTable slotBytes wellRest wellSlot slotsOf unpack readRequest over replyFrame frame firstEmptyFrom act tableOf pack image tallyOf
 histories-hold =
     record {
       each = refl;

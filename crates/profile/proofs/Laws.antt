@@ -12,6 +12,7 @@ use Rattle.profile.specs.Bytes.{Bytes, if_then_else_, same, over}
 use Rattle.profile.specs.Sizes.{replyRoom}
 use Rattle.profile.specs.Slot.{Right, Entry, reserved, enabled, disabled, Slot, empty, taken, inUse, distinct}
 use Rattle.profile.specs.Table.{slotCount, slotsOf, wholeSlots, wellTable}
+use Rattle.profile.specs.Tally.{tallyIn}
 use Rattle.profile.specs.Frame.{kindNumber, frame}
 use Rattle.profile.specs.Request.{setup, Read, asks, refused, noFrame, readRequest}
 use Rattle.profile.specs.Agent.{Given, Found, absent, one, next, find, Answer, deny, done, act, firstEmptyFrom, statusByte, replyFrame, Call, refuse, replied, obey, onBytes, agent}
@@ -104,26 +105,26 @@ apart-distinct (s ∷ t) a = go s (apart-distinct t (λ i j h e f p q. suc-inj (
 
 -- ---- refusals
 module _ (table : Bytes) (c : Call) where
-  refused-number : (n : ℕ) → eqb n 0 ≡ false → Refuses table c (refuse n table (c .buffer))
-  refused-number n e = record { by-number = λ _. (refl, refl); by-status = λ z. absurd (true≢false (sym z ∙ e)) }
+  refused-number : (n : ℕ) → eqb n 0 ≡ false → Refuses table c (refuse n table c)
+  refused-number n e = record { by-number = λ _. (refl, refl, refl); by-status = λ z. absurd (true≢false (sym z ∙ e)) }
 
-  refused-status : (a : Answer) → Refuses table c (replied (kindNumber (c .request)) a table (c .buffer))
+  refused-status : c .tally ≡ tallyIn table → (a : Answer) → Refuses table c (replied (kindNumber (c .request)) a table (c .buffer))
   unfolding over replyFrame frame
-  refused-status (deny r) = record { by-number = λ z. absurd (true≢false z); by-status = λ _ _. (ap (λ (s : ℕ). over ((32 + kindNumber (c .request)) ∷ s ∷ 0 ∷ 0 ∷ []) (c .buffer)) (sym (coded r .low)), refl) }
-  refused-status (done g u) = record { by-number = λ z. absurd (true≢false z); by-status = λ _ z. absurd (true≢false (sym (eqb-true (statusByte (done g u) % 128) 0 (omega arith)) ∙ z)) }
+  refused-status tally (deny r) = record { by-number = λ z. absurd (true≢false z); by-status = λ _ _. (ap (λ (s : ℕ). over ((32 + kindNumber (c .request)) ∷ s ∷ 0 ∷ 0 ∷ []) (c .buffer)) (sym (coded r .low)), refl, sym tally) }
+  refused-status tally (done g u) = record { by-number = λ z. absurd (true≢false z); by-status = λ _ z. absurd (true≢false (sym (eqb-true (statusByte (done g u) % 128) 0 (omega arith)) ∙ z)) }
 
   pub refuses : Refuses table c (agent table c)
-  refuses = by-agent table c (Refuses table c) refused-number (λ _ _ free _. obeyed (readRequest (c .request)) free)
+  refuses = by-agent table c (Refuses table c) refused-number (λ _ _ tally free _. obeyed tally (readRequest (c .request)) free)
     where
-      obeyed : (r : Read) (free : ℕ) → Refuses table c (onBytes (kindNumber (c .request)) (obey r free (slotsOf table)) table (c .buffer))
-      obeyed (asks q) free = refused-status (act free (slotsOf table) q)
-      obeyed (refused r) free = refused-status (deny r)
-      obeyed noFrame free = refused-number 104 refl
+      obeyed : c .tally ≡ tallyIn table → (r : Read) (free : ℕ) → Refuses table c (onBytes (kindNumber (c .request)) (obey r free (slotsOf table)) table c)
+      obeyed tally (asks q) free = refused-status tally (act free (slotsOf table) q)
+      obeyed tally (refused r) free = refused-status tally (deny r)
+      obeyed tally noFrame free = refused-number 104 refl
 
-  pub outside-105 : replyRoom ≤ length (c .buffer) → wholeSlots table ≡ true → slotCount table ≤ c .start → agent table c ≡ refuse 105 table (c .buffer)
+  pub outside-105 : replyRoom ≤ length (c .buffer) → wholeSlots table ≡ true → slotCount table ≤ c .start → agent table c ≡ refuse 105 table c
   outside-105 = agent-105 table c
 
-  pub twice-103 : replyRoom ≤ length (c .buffer) → wholeSlots table ≡ true → c .start < slotCount table → (Apart (slotsOf table) → ⊥) → agent table c ≡ refuse 103 table (c .buffer)
+  pub twice-103 : replyRoom ≤ length (c .buffer) → wholeSlots table ≡ true → c .start < slotCount table → (Apart (slotsOf table) → ⊥) → agent table c ≡ refuse 103 table c
   twice-103 long whole inside twice = agent-103 table c long whole inside (ill (wellTable table) refl)
     where
       ill : (b : Bool) → wellTable table ≡ b → wellTable table ≡ false

@@ -9,6 +9,7 @@ use lib.Dec.{eqb, leb, ltb}
 use lib.ListN.{length, set, getElem?, length-append}
 use Rattle.profile.specs.Bytes.{Bytes, In}
 use Rattle.profile.specs.Slot.{Count, Right, Entry, reserved, enabled, disabled, Slot, empty, taken, inUse}
+use Rattle.profile.specs.Tally.{tallyWith, inSlot, tallyOf}
 use Rattle.profile.specs.Frame.{Refusal}
 use Rattle.profile.specs.Request.{Request, setup, install, retrieve, rek, enable, remove, cancel, list, info}
 use Rattle.profile.specs.Agent.{Given, theRight, theKey, Answer, deny, done, Found, absent, one, find, whenFound}
@@ -17,7 +18,7 @@ use Rattle.profile.specs.Run.{underSlots}
 use Rattle.profile.specs.Laws.{Full, FoundIs, Shown}
 use Rattle.profile.specs.Starts.{SameRecords}
 use Rattle.profile.proofs.Logic.{leb-le, leb-over, same-refl, split, if-two}
-use Rattle.profile.proofs.Strings.{total}
+use Rattle.profile.proofs.TallyLaws.{sum, sums, counts-all}
 use Rattle.profile.proofs.Lookup.{EmptyAt, here, there, Free, Looked, find-looked, notInUse, no-length}
 use Rattle.profile.proofs.Tables.{not-in-use}
 use Rattle.profile.proofs.FirstEmpty.{not-there, first-free, first-most, none-empty}
@@ -39,9 +40,6 @@ like-back a =
     }
 
 -- ---- counting: a number for each slot, 0 for an empty one, added up
-abbrev sum : (Slot → ℕ) → List Slot → ℕ
-sum f t = total (map f t)
-
 module _ (f : Slot → ℕ) (z : f empty ≡ 0) where
   -- slot i, and all others
   sum-at : (t : List Slot) (i : ℕ) (s : Slot) → getElem? t i ≡ some s → sum f t ≡ f s + sum f (set t i empty)
@@ -73,6 +71,31 @@ module _ (f : Slot → ℕ) (z : f empty ≡ 0) where
           rest k = split k h
               (λ q. rw (q, none-after) (sym (p .2 h ∙ rw (same-refl h))))
               (λ q. sym (p .2 k ∙ rw (q, ← (a k), q)))
+
+-- ---- the tally: what is counted of records is the same, and so is what is left of as many slots
+pub same-records-tally : {t u : List Slot} → Like t u → tallyOf t ≡ tallyOf u
+same-records-tally {t} {u} a = rw (sums t, sums u) λ k.
+    tallyWith
+    (empties k)
+    (counted (λ s. inSlot s .reserved) refl k)
+    (counted (λ s. inSlot s .enabled) refl k)
+    (counted (λ s. inSlot s .disabled) refl k)
+    (counted (λ s. inSlot s .payload) refl k)
+  where
+    counted : (f : Slot → ℕ) → f empty ≡ 0 → sum f t ≡ sum f u
+    counted f z = sum-same f z t u (a .once) (a .records .each)
+
+    empties : sum (λ s. inSlot s .empty) t ≡ sum (λ s. inSlot s .empty) u
+    empties =
+        omega (
+          arith,
+          rw (sums t) at (counts-all t),
+          rw (sums u) at (counts-all u),
+          counted (λ s. inSlot s .reserved) refl,
+          counted (λ s. inSlot s .enabled) refl,
+          counted (λ s. inSlot s .disabled) refl,
+          a .records .as-many,
+        )
 
 -- ---- room for a setup: how many slots are taken
 held : Slot → ℕ

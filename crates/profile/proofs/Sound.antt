@@ -69,7 +69,7 @@ sound-run l table s (c ∷ cs) =
     (sound-run (history l (exchangeOf table c)) (agent table c .table) (sound-call l table s c) cs)
 
 -- ---- the blank card
-zeros-table : (n : ℕ) → blankTable n ≡ tableOf (replicate n empty)
+pub zeros-table : (n : ℕ) → blankTable n ≡ tableOf (replicate n empty)
 unfolding tableOf zeros pack
 zeros-table zero = refl
 zeros-table (suc n) =

@@ -11,6 +11,7 @@ use lib.Seq.{drop-at}
 use Rattle.profile.specs.Bytes.{Bytes, if_then_else_, byte, word, zeros, same, over, joined, In, pieces, Each}
 use Rattle.profile.specs.Slot.{Entry, reserved, enabled, disabled, Slot, empty, taken}
 use Rattle.profile.specs.Table.{unpack, image, pack, wellRest, wellSlot, slotBytes, slotsOf, tableOf, wholeSlots, wellTable}
+use Rattle.profile.specs.Tally.{Tally, tallyOf}
 use Rattle.profile.specs.Frame.{frame}
 use Rattle.profile.specs.Request.{Read, asks, refused, noFrame, readRequest, numberOf, writeBody}
 use Rattle.profile.specs.Agent.{firstEmptyFrom, act, replyFrame, agent}
@@ -48,8 +49,8 @@ behind {buffer = buffer} s = rw (s .other-replies) (stays (4 + word 2 (over sent
     stays n e = drop-at sent (drop (length sent) buffer) n e ∙ ap (λ (m : ℕ). drop m buffer) e
 
 -- ---- other starts, and tables that hold the same records in other slots
-started : {n a b : ℕ} {f : Bytes} → ltb a n ≡ ltb b n → OtherStart n (StartCases.calling a f) (StartCases.calling b f)
-started e = record { same-request = refl; same-buffer = refl; both-inside = e }
+started : {n a b : ℕ} {y : Tally} {f : Bytes} → ltb a n ≡ ltb b n → OtherStart n (StartCases.calling y a f) (StartCases.calling y b f)
+started e = record { same-tally = refl; same-request = refl; same-buffer = refl; both-inside = e }
 
 -- a record under one handle, and one under another, in either order
 either-order : (h k l : Bytes) (e f : Entry) → same k l ≡ false → underSlots h (taken k e ∷ taken l f ∷ empty ∷ []) ≡ underSlots h (taken l f ∷ empty ∷ taken k e ∷ [])
@@ -114,7 +115,7 @@ module _ {q : List Bytes} {t u : List Slot} {reply other : Bytes} (s : SameList 
       sym (pieces-joined 10 (s .listed) [] (ten-listed f)) ∙ ap₂ (pieces 10) many (sym bytes-listed)
 
 pub starts-hold : StartCases.Hold
-unfolding payloadForUse kindRead agent wholeSlots zeros wellTable slotBytes wellRest wellSlot slotsOf unpack readRequest over replyFrame frame firstEmptyFrom act tableOf pack image
+unfolding payloadForUse kindRead agent wholeSlots zeros wellTable slotBytes wellRest wellSlot slotsOf unpack readRequest over replyFrame frame firstEmptyFrom act tableOf pack image tallyOf
 starts-hold =
     record {
       from-0 = refl;
@@ -140,12 +141,14 @@ starts-hold =
           };
       two-runs = (started refl, (started refl, (started refl, (started refl, tt))));
       both-outside = started refl;
+      other-tally = λ o. not-equal 2 0 (λ t. t) (ap (λ (y : Tally). y .empty) (o .same-tally));
       other-frame = λ o. not-equal 1 2 (λ t. t) (ap (byte 4) (o .same-request));
       other-buffer = λ o. not-equal 0xAA 0xBB (λ t. t) (ap (byte 0) (o .same-buffer));
       one-outside = λ o. true≢false (o .both-inside);
       call-number = λ s. not-equal 0 102 (λ t. t) (s .number);
       call-status = λ s. not-equal 0 4 (λ t. t) (head-eq-of-cons-eq (ap (map (λ x. x .status)) (s .exchange)));
       call-records = λ s. not-equal 1 2 (λ t. t) (s .records .as-many);
+      call-tally = λ s. not-equal 1 2 (λ t. t) (ap (λ (y : Tally). y .empty) (s .tally));
       call-reply = λ s. not-equal 0xAA 0xBB (λ t. t) (ap (byte 4278) (s .reply (λ limit q e. not-equal 9 8 (λ t. t) (ap kindRead e))));
       call-list = λ s. not-equal 0xBB 0xAA (λ t. t) (ap (byte 0) (behind (s .lists _ _ refl refl)));
       run-number = λ r. not-equal 1 0 (λ t. t) (ap length (r .same-numbers));

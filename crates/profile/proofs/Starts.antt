@@ -1,10 +1,10 @@
 -- PROFILE 8.4: only a setup depends on the start, and of it only the slot. Calls and sequences of calls that differ in their starts alone, on tables that hold
 -- the same records, are alike.
 use Prim.Native.Nat.{ℕ, zero, suc, _*_, _≤_, _<_, min}
-use mathlib.Core.Path.{_≡_, refl, sym, ap, ap₂, _∙_}
+use mathlib.Core.Path.{_≡_, refl, sym, ap, ap₂, _∙_, subst}
 use mathlib.Core.List.{List, [], _∷_, _++_}
 use mathlib.Core.Option.{some}
-use mathlib.Core.Bool.{true, false, not, true≢false}
+use mathlib.Core.Bool.{Bool, true, false, not, true≢false}
 use native.Mathlib.Omega.{arith}
 use lib.Dec.{eqb, leb, ltb}
 use lib.ListN.{length, take, getElem?, length-take}
@@ -12,9 +12,10 @@ use lib.Seq.{take-all}
 use Rattle.profile.specs.Bytes.{Bytes, if_then_else_, In, over, joined}
 use Rattle.profile.specs.Slot.{Slot}
 use Rattle.profile.specs.Table.{slotCount, slotsOf, wholeSlots, wellTable}
+use Rattle.profile.specs.Tally.{Tally, tallyIn, sameTally}
 use Rattle.profile.specs.Frame.{frame, kindNumber, statusIn}
 use Rattle.profile.specs.Request.{Request, setup, install, retrieve, rek, enable, remove, cancel, list, info, Read, asks, refused, noFrame, readRequest}
-use Rattle.profile.specs.Agent.{Answer, done, listed, fitting, act, firstEmptyFrom, replyFrame, Call, Outcome, refuse, replied, answered, obey, onBytes, agent}
+use Rattle.profile.specs.Agent.{Answer, deny, done, listed, fitting, act, firstEmptyFrom, replyFrame, Call, Outcome, refuse, replied, Obeyed, stopped, answered, obey, onBytes, agent}
 use Rattle.profile.specs.History.{Ledger, blankLedger, Exchange, history}
 use Rattle.profile.specs.Run.{exchange, exchangeOf, blankTable, ledgerThen}
 use Rattle.profile.specs.Starts.{AlikeButPlaces, OtherStart, OtherStarts, SameList, SameCall, SameRun}
@@ -24,16 +25,18 @@ use Rattle.profile.proofs.Counts.{status-over}
 use Rattle.profile.proofs.FirstEmpty.{not-there}
 use Rattle.profile.proofs.Frames.{reads}
 use Rattle.profile.proofs.Requests.{reads-number}
-use Rattle.profile.proofs.Numbers.{TestedAlike, by-agents}
+use Rattle.profile.proofs.Numbers.{obeyed, TestedAlike, by-agents}
 use Rattle.profile.proofs.WellFormed.{table-distinct, count-slots}
+use Rattle.profile.proofs.Laws.{refuses}
+use Rattle.profile.proofs.Tallies.{tally-afresh}
 use Rattle.profile.proofs.Sound.{Sound, sound-call, sound-count, sound-then, sound-well, sound-agrees}
 use Rattle.profile.proofs.AnyTable.{ledgerOf, table-agrees, sound-by}
-use Rattle.profile.proofs.SameRecords.{Like, like-back, Place, first-place, Alike, both-deny, both-give, both-list, alike, as-many-listed, shown-too, listed-too}
+use Rattle.profile.proofs.SameRecords.{Like, like-back, Place, first-place, Alike, both-deny, both-give, both-list, alike, same-records-tally, as-many-listed, shown-too, listed-too}
 
 -- with both starts inside, or both outside, every test says the same
 other-tests : {table other : Bytes} {c d : Call} → slotCount table ≡ slotCount other → wholeSlots table ≡ wholeSlots other → wellTable table ≡ wellTable other
-    → OtherStart (slotCount table) c d → TestedAlike table other c d
-other-tests {table} {other} {c} {d} n whole well o =
+    → tallyIn table ≡ tallyIn other → OtherStart (slotCount table) c d → TestedAlike table other c d
+other-tests {table} {other} {c} {d} n whole well tally o =
     record {
       buffer = ap length (o .same-buffer);
       whole = whole;
@@ -43,6 +46,7 @@ other-tests {table} {other} {c} {d} n whole well o =
           ∙ sym (leb-ltb (slotCount table) (d .start))
           ∙ ap (λ (m : ℕ). leb m (d .start)) n;
       well = well;
+      tally = ap₂ sameTally (o .same-tally) tally;
     }
 
 -- ---- only a setup looks at the slot that is free for it
@@ -63,10 +67,17 @@ only-setup x y t (asks q) no-setup = ap answered (slot-unused x y t q (λ h n e.
 only-setup x y t (refused r) no-setup = refl
 only-setup x y t noFrame no-setup = refl
 
+-- what is done with a frame depends on the call by what is lent with it
+same-lent : (kind : ℕ) (x : Obeyed) (table : Bytes) (c d : Call) → c .tally ≡ d .tally → c .buffer ≡ d .buffer → onBytes kind x table c ≡ onBytes kind x table d
+same-lent kind (stopped n) table c d e f = ap₂ {C = Outcome} (λ (b : Bytes) (y : Tally). record { number = n; reply = b; table = table; tally = y }) f e
+same-lent kind (answered a) table c d e f = ap (replied kind a table) f
+
 pub only-setups : (table : Bytes) (c d : Call) → OtherStart (slotCount table) c d → ((h : Bytes) (n : ℕ) → readRequest (c .request) ≡ asks (setup h n) → ⊥) → agent table c ≡ agent table d
 only-setups table c d o no-setup =
-    by-agents (other-tests refl refl refl o) (λ (x y : Outcome). x ≡ y) (λ n _. ap (refuse n table) (o .same-buffer)) λ _ _ _ _.
-    rw (← (o .same-request), ← (o .same-buffer), only-setup (free c) (free d) (slotsOf table) (readRequest (c .request)) no-setup)
+    by-agents (other-tests refl refl refl refl o) (λ (x y : Outcome). x ≡ y) (λ n _. same-lent 0 (stopped n) table c d (o .same-tally) (o .same-buffer)) λ _ _ _ _ _.
+    same-lent (kindNumber (c .request)) (obey (readRequest (c .request)) (free c) (slotsOf table)) table c d (o .same-tally) (o .same-buffer)
+    ∙ ap (λ (x : Obeyed). onBytes (kindNumber (c .request)) x table d) (only-setup (free c) (free d) (slotsOf table) (readRequest (c .request)) no-setup)
+    ∙ ap (λ (f : Bytes). onBytes (kindNumber f) (obey (readRequest f) (free d) (slotsOf table)) table d) (o .same-request)
   where
     free : Call → ℕ
     free e = firstEmptyFrom (e .start) (slotsOf table)
@@ -85,19 +96,19 @@ same-exchange (asks q) s = ap₂ {C = List Exchange} (λ (n m : ℕ). if eqb n 0
 same-exchange (refused r) s = refl
 same-exchange noFrame s = refl
 
-module _ (kind : ℕ) (table other buffer : Bytes) where
-  same-answer : {q : Request} {x y : Answer} → Alike q x y → SameOutcome (asks q) (replied kind x table buffer) (replied kind y other buffer)
+module _ (kind : ℕ) (table other : Bytes) (c d : Call) (e : c .buffer ≡ d .buffer) where
+  same-answer : {q : Request} {x y : Answer} → Alike q x y → SameOutcome (asks q) (replied kind x table (c .buffer)) (replied kind y other (d .buffer))
   unfolding replyFrame
-  same-answer both-deny = same-reply refl refl
-  same-answer both-give = same-reply refl refl
+  same-answer (both-deny {r = r}) = same-reply refl (ap (over (replyFrame kind (deny r))) e)
+  same-answer (both-give {g = g} {t = t}) = same-reply refl (ap (over (replyFrame kind (done g t))) e)
   same-answer (both-list {g = g} {k = k} {t = t} {u = u}) =
-      record { number = refl; status = status-over kind (done g t) buffer ∙ sym (status-over kind (done k u) buffer); reply = λ no-list. absurd (no-list _ _ refl) }
+      record { number = refl; status = status-over kind (done g t) (c .buffer) ∙ sym (status-over kind (done k u) (d .buffer)); reply = λ no-list. absurd (no-list _ _ refl) }
 
   same-obeyed : {t u : List Slot} → Like t u → {x y : ℕ} → Place x t → Place y u → (r : Read)
-      → SameOutcome r (onBytes kind (obey r x t) table buffer) (onBytes kind (obey r y u) other buffer)
+      → SameOutcome r (onBytes kind (obey r x t) table c) (onBytes kind (obey r y u) other d)
   same-obeyed a p q (asks z) = same-answer (alike a p q z)
-  same-obeyed a p q (refused r) = same-reply refl refl
-  same-obeyed a p q noFrame = same-reply refl refl
+  same-obeyed a p q (refused r) = same-reply refl (ap (over (replyFrame kind (deny r))) e)
+  same-obeyed a p q noFrame = same-reply refl e
 
 -- ---- two replies to a list query
 in-take : (n : ℕ) (hs : List Bytes) (h : Bytes) → In h (take n hs) → In h hs
@@ -169,7 +180,7 @@ module _ {l : Ledger} {table other : Bytes} (b : Beside l table other) where
 
   module _ {c d : Call} (o : OtherStart (slotCount table) c d) where
     tested : TestedAlike table other c d
-    tested = other-tests (b .as-many) (wells .0 ∙ sym (other-wells .0)) (wells .1 ∙ sym (other-wells .1)) o
+    tested = other-tests (b .as-many) (wells .0 ∙ sym (other-wells .0)) (wells .1 ∙ sym (other-wells .1)) (same-records-tally like) o
 
     -- the slots that the two searches find
     place : c .start < slotCount table → Place (firstEmptyFrom (c .start) (slotsOf table)) (slotsOf table)
@@ -182,9 +193,9 @@ module _ {l : Ledger} {table other : Bytes} (b : Beside l table other) where
 
     same-outcome : SameOutcome (readRequest (c .request)) (agent table c) (agent other d)
     same-outcome =
-        by-agents tested (SameOutcome (readRequest (c .request))) (λ _ _. same-reply refl (o .same-buffer)) λ _ _ inside _.
-        rw (← (o .same-request), ← (o .same-buffer))
-        (same-obeyed (kindNumber (c .request)) table other (c .buffer) like (place inside) (other-place inside) (readRequest (c .request)))
+        by-agents tested (SameOutcome (readRequest (c .request))) (λ _ _. same-reply refl (o .same-buffer)) λ _ _ inside _ _.
+        subst (λ (f : Bytes). SameOutcome (readRequest (c .request)) (obeyed table c) (onBytes (kindNumber f) (obey (readRequest f) (firstEmptyFrom (d .start) (slotsOf other)) (slotsOf other)) other d)) (o .same-request)
+        (same-obeyed (kindNumber (c .request)) table other c d (o .same-buffer) like (place inside) (other-place inside) (readRequest (c .request)))
 
     same-told : exchangeOf table c ≡ exchangeOf other d
     same-told = same-exchange (readRequest (c .request)) same-outcome ∙ ap (λ (f : Bytes). exchange (readRequest f) (agent other d)) (o .same-request)
@@ -193,7 +204,7 @@ module _ {l : Ledger} {table other : Bytes} (b : Beside l table other) where
         → SameList q (slotsOf table) (slotsOf other) (c .buffer) (agent table c .reply) (agent other d .reply)
     lists limit q e =
         by-agents tested (λ (x y : Outcome). eqb (x .number) 0 ≡ true → SameList q (slotsOf table) (slotsOf other) (c .buffer) (x .reply) (y .reply))
-        (λ n f z. absurd (true≢false (sym z ∙ f))) λ _ _ _ _ _.
+        (λ n f z. absurd (true≢false (sym z ∙ f))) λ _ _ _ _ _ _.
         rw (← (o .same-request), ← (o .same-buffer), e, ← kind)
         (same-list like limit q (c .buffer) (firstEmptyFrom (c .start) (slotsOf table)) (firstEmptyFrom (d .start) (slotsOf other)))
       where
@@ -208,12 +219,24 @@ module _ {l : Ledger} {table other : Bytes} (b : Beside l table other) where
           as-many = sound-count l table (b .sound) c ∙ b .as-many ∙ sym (sound-count l other (b .other-sound) d);
         }
 
+-- the tally afterwards: that of the records where there is a reply, and the one lent where there is none
+same-tally-after : {l : Ledger} {table other : Bytes} → Beside l table other → {c d : Call} → OtherStart (slotCount table) c d → agent table c .tally ≡ agent other d .tally
+same-tally-after {l} {table} {other} b {c} {d} o = go (eqb (agent table c .number) 0) refl
+  where
+    same-number : (x : Bool) → eqb (agent table c .number) 0 ≡ x → eqb (agent other d .number) 0 ≡ x
+    same-number x e = ap (λ (n : ℕ). eqb n 0) (sym (same-outcome b o .number)) ∙ e
+
+    go : (x : Bool) → eqb (agent table c .number) 0 ≡ x → agent table c .tally ≡ agent other d .tally
+    go true e = tally-afresh table c e ∙ same-records-tally (like (after b o)) ∙ sym (tally-afresh other d (same-number true e))
+    go false e = refuses table c .by-number e .2 ∙ o .same-tally ∙ sym (refuses other d .by-number (same-number false e) .2)
+
 call-beside : {l : Ledger} {table other : Bytes} → Beside l table other → {c d : Call} → OtherStart (slotCount table) c d → SameCall table other c d
 call-beside b o =
     record {
       number = same-outcome b o .number;
       exchange = same-told b o;
       records = like (after b o) .records;
+      tally = same-tally-after b o;
       reply = same-outcome b o .reply;
       lists = lists b o;
     }

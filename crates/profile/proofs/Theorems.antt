@@ -36,7 +36,10 @@ use Rattle.profile.proofs.HistoryCases.{histories-hold}
 use Rattle.profile.proofs.SizeCases.{sizes-hold}
 use Rattle.profile.proofs.DemandCases.{demands-hold}
 use Rattle.profile.proofs.StartCases.{starts-hold}
+use Rattle.profile.proofs.TallyCases.{tallies-hold}
 use Rattle.profile.proofs.Demand3.{demand-3}
+use Rattle.profile.proofs.TallyLaws.{counts-all, tally-slot}
+use Rattle.profile.proofs.Tallies.{differs-106, turn-tally, tally-afresh, tally-stays, carries-on, never-106}
 use Rattle.profile.proofs.Starts.{only-setups, same-call, same-run, same-ledger}
 
 packs : (t : List Slot) → TableFits t → distinct t ≡ true → 1 ≤ length t → length t ≤ 15 → Packs t
@@ -70,7 +73,15 @@ theorems =
       never-read-8 = never-read-8;
       outside-105 = outside-105;
       twice-103 = twice-103;
+      differs-106 = differs-106;
       stays-well = λ table y whole well c. let s = stays-well table y whole well c in record { whole = s .0; well = s .1 };
+      counts-all = counts-all;
+      tally-slot = tally-slot;
+      turn-tally = turn-tally;
+      tally-afresh = tally-afresh;
+      tally-stays = tally-stays;
+      carries-on = carries-on;
+      never-106 = never-106;
       first-empty = first-empty;
       first-only = first-only;
       none-empty = none-empty;
@@ -94,6 +105,7 @@ theorems =
       histories-hold = histories-hold;
       demands-hold = demands-hold;
       starts-hold = starts-hold;
+      tallies-hold = tallies-hold;
       demand-3 = demand-3;
       only-setups = only-setups;
       same-call = same-call;

@@ -7,6 +7,7 @@ use lib.ListN.{take, drop, replicate}
 use Rattle.profile.specs.Bytes.{Bytes}
 use Rattle.profile.specs.Slot.{NoneKept, Kept, rightWith, reserved, enabled, empty, taken}
 use Rattle.profile.specs.Request.{install, rek, retrieve, enable, remove}
+use Rattle.profile.specs.Tally.{Tally, tallyWith}
 use Rattle.profile.specs.Agent.{Call}
 use Rattle.profile.specs.History.{Owned, forUse, lent, gone, Ledger, blankLedger, Exchange}
 use Rattle.profile.specs.CaseBytes.{hex, changed, H1, H2, H3, H4, K, L, A, five}
@@ -15,9 +16,9 @@ use Rattle.profile.specs.HistoryCases.{plain, other, asking}
 use Rattle.profile.specs.Contents.{installations, lastCount, held, Contents}
 use Rattle.profile.specs.Demand3.{Records, KeyOut, returned, AlikeButKeys}
 
--- a call with a frame
-abbrev pub calling : Bytes → Call
-calling f = record { start = 0; request = f; buffer = replicate 4279 0xAA }
+-- a call with a tally and a frame
+abbrev pub calling : Tally → Bytes → Call
+calling tally f = record { tally = tally; start = 0; request = f; buffer = replicate 4279 0xAA }
 
 -- a slot with another key, its bytes 11 to 26
 abbrev pub rekeyed : Bytes → Bytes → Bytes
@@ -62,11 +63,13 @@ pub record Hold : Type 0 where
   pub other-count : ¬ Contents (asking (install H1 plain) 0 ∷ []) (ledgerOf (gone (rightWith K (Kept 8) [] five) ∷ []))
   pub other-bit : ¬ Contents (asking (install H1 (rightWith K (Kept 0) [] five)) 0 ∷ []) (ledgerOf (forUse H1 (rightWith K NoneKept [] five) ∷ []))
   -- kinds 4 and 3 send a key
-  pub by-rek : KeyOut after7 (calling (hex "24 80 00 14" ++ H1 ++ H2)) H1 H2
-  pub by-retrieval : KeyOut hashed2 (calling (hex "23 80 00 14" ++ H3 ++ H4)) H3 H4
+  pub by-rek : KeyOut after7 (calling (tallyWith 0 0 1 0 5) (hex "24 80 00 14" ++ H1 ++ H2)) H1 H2
+  pub by-retrieval : KeyOut hashed2 (calling (tallyWith 0 0 1 0 1) (hex "23 80 00 14" ++ H3 ++ H4)) H3 H4
   -- but not where they are refused, nor does another kind
-  pub absent : ¬ KeyOut after9 (calling (hex "24 80 00 14" ++ H1 ++ H2)) H1 H2
-  pub by-info : ¬ KeyOut after7 (calling (hex "29 80 00 0A" ++ H1)) H1 H2
+  pub absent : ¬ KeyOut after9 (calling (tallyWith 0 0 0 1 5) (hex "24 80 00 14" ++ H1 ++ H2)) H1 H2
+  pub by-info : ¬ KeyOut after7 (calling (tallyWith 0 0 1 0 5) (hex "29 80 00 0A" ++ H1)) H1 H2
+  -- nor does a call with a tally that is not the table's
+  pub other-tally : ¬ KeyOut after7 (calling (tallyWith 0 0 0 1 5) (hex "24 80 00 14" ++ H1 ++ H2)) H1 H2
   -- returns that succeeded, under H1 to H4
   pub returns : map (λ k. returned k exchanged) (H1 ∷ H2 ∷ H3 ∷ H4 ∷ []) ≡ false ∷ true ∷ true ∷ false ∷ []
   pub refused-return : returned H2 (asking (enable H2 (Kept 9)) 4 ∷ []) ≡ false

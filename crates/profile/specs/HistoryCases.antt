@@ -8,6 +8,7 @@ use Rattle.profile.specs.Bytes.{Bytes}
 use Rattle.profile.specs.Slot.{Kept, Right, rightWith, reserved, enabled, disabled, empty, taken}
 use Rattle.profile.specs.Frame.{parameter}
 use Rattle.profile.specs.Request.{Request, setup, install, retrieve, rek, enable, remove, cancel, list, info, asks, refused, noFrame}
+use Rattle.profile.specs.Tally.{Tally, tallyWith}
 use Rattle.profile.specs.Agent.{Call}
 use Rattle.profile.specs.History.{open-setup, forUse, lent, gone, Ledger, blankLedger, rightNumber, Exchange, told, history}
 use Rattle.profile.specs.Run.{exchange, exchanges, blankTable, tableAfterAll, ledgerThen, underSlots, underLedger, Agrees}
@@ -76,15 +77,15 @@ abbrev pub telling : Case → Ledger
 telling c = told before (record { request = c .request; status = c .status })
 
 -- ---- a run of calls on two blank slots: two installations with equal bytes, a lending between them, and one refused
-abbrev pub frames : List Bytes
+abbrev pub frames : List (Tally × Bytes)
 frames =
-    (hex "21 80 00 0C" ++ H1 ++ hex "00 05")
-    ∷ (hex "22 C0 00 22" ++ H1 ++ K ++ hex "00 07 00" ++ five)
-    ∷ (hex "24 80 00 14" ++ H1 ++ H2)
-    ∷ (hex "21 80 00 0C" ++ H1 ++ hex "00 05")
-    ∷ (hex "22 C0 00 22" ++ H1 ++ K ++ hex "00 07 00" ++ five)
-    ∷ (hex "24 80 00 14" ++ H2 ++ H3)
-    ∷ hex "26 80 00"
+    (tallyWith 2 0 0 0 0, hex "21 80 00 0C" ++ H1 ++ hex "00 05")
+    ∷ (tallyWith 1 1 0 0 0, hex "22 C0 00 22" ++ H1 ++ K ++ hex "00 07 00" ++ five)
+    ∷ (tallyWith 1 0 1 0 5, hex "24 80 00 14" ++ H1 ++ H2)
+    ∷ (tallyWith 1 0 0 1 5, hex "21 80 00 0C" ++ H1 ++ hex "00 05")
+    ∷ (tallyWith 0 1 0 1 5, hex "22 C0 00 22" ++ H1 ++ K ++ hex "00 07 00" ++ five)
+    ∷ (tallyWith 0 0 1 1 10, hex "24 80 00 14" ++ H2 ++ H3)
+    ∷ (tallyWith 0 0 1 1 10, hex "26 80 00")
     ∷ []
 
 abbrev pub asking : Request → ℕ → Exchange
@@ -120,24 +121,25 @@ halfway = record { setups = []; rights = lent H2 plain ∷ forUse H1 plain ∷ [
 abbrev pub ledger : Ledger
 ledger = record { setups = open-setup H4 9 ∷ []; rights = forUse H2 counted3 ∷ gone plain ∷ [] }
 
-abbrev pub calls : ℕ → List Bytes → List Call
-calls room fs = map (λ f. record { start = 0; request = f; buffer = replicate room 0xAA }) fs
+-- calls with these tallies and frames
+abbrev pub calls : ℕ → List (Tally × Bytes) → List Call
+calls room fs = map (λ f. record { tally = f .0; start = 0; request = f .1; buffer = replicate room 0xAA }) fs
 
 pub record Hold : Type 0 where
   pub each : map telling tellings ≡ map (λ c. c .after) tellings
   -- the run: its exchanges; the table after the first three; the ledger
   pub ran : exchanges (blankTable 2) (calls 4279 frames) ≡ run
-  pub left : tableAfterAll 1 (calls 4279 (take 3 frames)) ≡ lent7
+  pub left : tableAfterAll 2 (calls 4279 (take 3 frames)) ≡ lent7 ++ blank
   pub tells : history blankLedger run ≡ halfway
   pub goes-on : history blankLedger (run ++ further) ≡ ledger
-  pub then-told : ledgerThen 1 (calls 4279 ((hex "21 80 00 0C" ++ H1 ++ hex "00 05") ∷ [])) ≡ record { setups = open-setup H1 5 ∷ []; rights = [] }
+  pub then-told : ledgerThen 1 (calls 4279 ((tallyWith 1 0 0 0 0, hex "21 80 00 0C" ++ H1 ++ hex "00 05") ∷ [])) ≡ record { setups = open-setup H1 5 ∷ []; rights = [] }
   pub blank-at-first : blankTable 2 ≡ blank ++ blank
   -- a call that gave a number, and a frame that is no request, have no exchange
-  pub numbered : exchanges (blankTable 1) (calls 4278 ((hex "21 80 00 0C" ++ H1 ++ hex "00 05") ∷ [])) ≡ []
-  pub with-number : exchange (asks (remove H1)) (record { number = 104; reply = hex "26 00 00 00"; table = [] }) ≡ []
-  pub with-status : exchange (asks (remove H1)) (record { number = 0; reply = hex "26 04 00 00"; table = [] }) ≡ asking (remove H1) 4 ∷ []
-  pub not-asked : exchange (refused parameter) (record { number = 0; reply = hex "26 00 00 00"; table = [] }) ≡ []
-  pub no-frame : exchange noFrame (record { number = 0; reply = hex "26 00 00 00"; table = [] }) ≡ []
+  pub numbered : exchanges (blankTable 1) (calls 4278 ((tallyWith 1 0 0 0 0, hex "21 80 00 0C" ++ H1 ++ hex "00 05") ∷ [])) ≡ []
+  pub with-number : exchange (asks (remove H1)) (record { number = 104; reply = hex "26 00 00 00"; table = []; tally = tallyWith 0 0 0 0 0 }) ≡ []
+  pub with-status : exchange (asks (remove H1)) (record { number = 0; reply = hex "26 04 00 00"; table = []; tally = tallyWith 0 0 0 0 0 }) ≡ asking (remove H1) 4 ∷ []
+  pub not-asked : exchange (refused parameter) (record { number = 0; reply = hex "26 00 00 00"; table = []; tally = tallyWith 0 0 0 0 0 }) ≡ []
+  pub no-frame : exchange noFrame (record { number = 0; reply = hex "26 00 00 00"; table = []; tally = tallyWith 0 0 0 0 0 }) ≡ []
   -- the rights by their numbers
   pub by-number : map (λ i. rightNumber i ledger) (0 ∷ 1 ∷ 2 ∷ []) ≡ some (forUse H2 counted3) ∷ some (gone plain) ∷ none ∷ []
   -- what stands under a handle, by the ledger and by the slots

@@ -20,9 +20,9 @@ Apart t = (i j : ℕ) (h : Bytes) (e f : Entry) → getElem? t i ≡ some (taken
 -- ---- PROFILE 4
 -- a call that gives a number changes nothing; one that gives a status writes four bytes, the kind as asked and the status in them, and changes nothing else
 pub record Refuses (table : Bytes) (c : Call) (o : Outcome) : Type 0 where
-  pub by-number : eqb (o .number) 0 ≡ false → (o .reply ≡ c .buffer) × (o .table ≡ table)
+  pub by-number : eqb (o .number) 0 ≡ false → (o .reply ≡ c .buffer) × (o .table ≡ table) × (o .tally ≡ c .tally)
   pub by-status : eqb (o .number) 0 ≡ true → eqb (statusIn (o .reply)) 0 ≡ false
-      → (o .reply ≡ over ((32 + kindNumber (c .request)) ∷ statusIn (o .reply) ∷ 0 ∷ 0 ∷ []) (c .buffer)) × (o .table ≡ table)
+      → (o .reply ≡ over ((32 + kindNumber (c .request)) ∷ statusIn (o .reply) ∷ 0 ∷ 0 ∷ []) (c .buffer)) × (o .table ≡ table) × (o .tally ≡ c .tally)
 
 -- PROFILE 4.2: a status is 0, or the number of a refusal
 abbrev pub AStatus : ℕ → Type 0

@@ -68,6 +68,9 @@ startOutside = 105
 abbrev pub tableNotWellFormed : ℕ
 tableNotWellFormed = 103
 
+abbrev pub tallyDiffers : ℕ
+tallyDiffers = 106
+
 abbrev pub notAFrame : ℕ
 notAFrame = 104
 

@@ -13,7 +13,7 @@ use Rattle.profile.specs.Frame.{frame}
 use Rattle.profile.specs.Request.{list, asks, readRequest}
 use Rattle.profile.specs.Agent.{Call, agent}
 use Rattle.profile.specs.History.{Ledger, history}
-use Rattle.profile.specs.Run.{exchangeOf, exchanges, tableThen, underSlots}
+use Rattle.profile.specs.Run.{exchangeOf, exchanges, tableThen, numbersThen, underSlots}
 use Rattle.profile.specs.Laws.{Shown}
 
 -- ---- tables with the same records
@@ -33,8 +33,9 @@ pub record AlikeButPlaces (table other : Bytes) : Type 0 where
   pub records : SameRecords (slotsOf table) (slotsOf other)
 
 -- ---- calls with other starts
--- on n slots: the same frame and the same buffer, and both starts are numbers of slots, or neither is
+-- on n slots: the same tally, the same frame and the same buffer, and both starts are numbers of slots, or neither is
 pub record OtherStart (n : ℕ) (c d : Call) : Type 0 where
+  pub same-tally : c .tally ≡ d .tally
   pub same-request : c .request ≡ d .request
   pub same-buffer : c .buffer ≡ d .buffer
   pub both-inside : ltb (c .start) n ≡ ltb (d .start) n
@@ -60,19 +61,16 @@ pub record SameList (q : List Bytes) (t u : List Slot) (buffer reply other : Byt
   pub other-shown : (h : Bytes) → In h other-listed → Shown q t h
   pub same-handles : more ≡ false → (h : Bytes) → In h listed ↔ In h other-listed
 
--- two calls: the same number, the same request and status, the same records afterwards; and the same reply, every byte of it, but for the order of a list
+-- two calls: the same number, the same request and status, the same records and the same tally afterwards; and the same reply, every byte of it, but for the
+-- order of a list
 pub record SameCall (table other : Bytes) (c d : Call) : Type 0 where
   pub number : agent table c .number ≡ agent other d .number
   pub exchange : exchangeOf table c ≡ exchangeOf other d
   pub records : SameRecords (slotsOf (agent table c .table)) (slotsOf (agent other d .table))
+  pub tally : agent table c .tally ≡ agent other d .tally
   pub reply : ((limit : ℕ) (q : List Bytes) → readRequest (c .request) ≡ asks (list limit q) → ⊥) → agent table c .reply ≡ agent other d .reply
   pub lists : (limit : ℕ) (q : List Bytes) → readRequest (c .request) ≡ asks (list limit q) → eqb (agent table c .number) 0 ≡ true
       → SameList q (slotsOf table) (slotsOf other) (c .buffer) (agent table c .reply) (agent other d .reply)
-
--- the numbers of some calls, one after another
-abbrev pub numbersThen : Bytes → List Call → List ℕ
-numbersThen table [] = []
-numbersThen table (c ∷ cs) = agent table c .number ∷ numbersThen (agent table c .table) cs
 
 -- two sequences of calls: the same numbers, the same exchanges, and so the same ledger; the same records afterwards
 pub record SameRun (table other : Bytes) (cs ds : List Call) : Type 0 where

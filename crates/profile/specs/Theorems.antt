@@ -7,12 +7,13 @@ use mathlib.Core.List.{List, map}
 use mathlib.Core.Option.{some}
 use mathlib.Core.Bool.{true, false}
 use lib.Dec.{T, eqb, ltb}
-use lib.ListN.{length, drop, set}
-use Rattle.profile.specs.Bytes.{Bytes, Bytes256, over, all, any}
+use lib.ListN.{length, drop, set, getElem?}
+use Rattle.profile.specs.Bytes.{Bytes, Bytes256, In, over, all, any}
 use Rattle.profile.specs.Sizes.{slotSize, replyRoom}
 use Rattle.profile.specs.Slot.{reserved, Slot, taken, distinct, SlotFits, TableFits}
 use Rattle.profile.specs.Table.{unpack, pack, wellSlot, slotBytes, slotCount, slotsOf, tableOf, wholeSlots, wellTable}
 use Rattle.profile.specs.Turning.{unpackBefore, keepsCount, Turned, turn}
+use Rattle.profile.specs.Tally.{tallyWith, inSlot, plus, tallyOf, tallyIn}
 use Rattle.profile.specs.Frame.{Kind, kindOf, isStatus, kindNumber, statusIn}
 use Rattle.profile.specs.Request.{Request, setup, list, asks, readRequest, writeRequest, withVerdict, RequestFits}
 use Rattle.profile.specs.Agent.{Given, Answer, done, find, act, lowestEmpty, firstEmptyFrom, replyFrame, Call, Outcome, refuse, replied, agent}
@@ -30,9 +31,11 @@ use Rattle.profile.specs.ListingCases
 use Rattle.profile.specs.HistoryCases
 use Rattle.profile.specs.DemandCases
 use Rattle.profile.specs.StartCases
+use Rattle.profile.specs.TallyCases
 use Rattle.profile.specs.Demand3.{Demand3}
 use Rattle.profile.specs.Starts.{AlikeButPlaces, OtherStart, OtherStarts, SameCall, SameRun}
-use Rattle.profile.specs.Run.{ledgerThen}
+use Rattle.profile.specs.Tallies.{CountsAll, Carries}
+use Rattle.profile.specs.Run.{numbersThen, blankTable, ledgerThen}
 use Rattle.profile.specs.Laws.{Apart, Refuses, AStatus, FoundIs, Full, FirstEmpty, SetsFirst, ListsExactly}
 
 -- ---- the words of the theorems below
@@ -109,11 +112,25 @@ pub record Theorems : Type 0 where
   pub statuses : (s : ℕ) → (isStatus s ≡ true) ↔ AStatus s
   pub never-read-8 : (f : Bytes) → statusIn f ≡ 8 → readReply f ≡ malformed
   -- PROFILE 4.1: a start that is no slot's number is 105, and one handle in two slots is 103, whatever the frame
-  pub outside-105 : (table : Bytes) (c : Call) → replyRoom ≤ length (c .buffer) → wholeSlots table ≡ true → slotCount table ≤ c .start → agent table c ≡ refuse 105 table (c .buffer)
+  pub outside-105 : (table : Bytes) (c : Call) → replyRoom ≤ length (c .buffer) → wholeSlots table ≡ true → slotCount table ≤ c .start → agent table c ≡ refuse 105 table c
   pub twice-103 : (table : Bytes) (c : Call) → replyRoom ≤ length (c .buffer) → wholeSlots table ≡ true → c .start < slotCount table → (Apart (slotsOf table) → ⊥)
-      → agent table c ≡ refuse 103 table (c .buffer)
+      → agent table c ≡ refuse 103 table c
+  -- a tally that is not the table's is 106, whatever the frame
+  pub differs-106 : (table : Bytes) (c : Call) → replyRoom ≤ length (c .buffer) → wholeSlots table ≡ true → c .start < slotCount table → wellTable table ≡ true
+      → (c .tally ≡ tallyIn table → ⊥) → agent table c ≡ refuse 106 table c
   -- PROFILE 2.5: a well-formed table stays so
   pub stays-well : (table : Bytes) → Bytes256 table → wholeSlots table ≡ true → wellTable table ≡ true → (c : Call) → Stays (agent table c .table)
+  -- PROFILE 2.8 and 8.5: the tally counts every slot once; where one slot changes, it loses what the slot counted for and gains what it counts for then; a turning
+  -- changes no number of it
+  pub counts-all : (t : List Slot) → CountsAll t
+  pub tally-slot : (t : List Slot) (i : ℕ) (before after : Slot) → getElem? t i ≡ some before → plus (tallyOf (set t i after)) (inSlot before) ≡ plus (tallyOf t) (inSlot after)
+  pub turn-tally : (table : Bytes) → tallyIn (turn table .table) ≡ tallyIn table
+  -- after a call that gives 0 it is the one worked out afresh; a call that leaves the table as it was leaves every number of it
+  pub tally-afresh : (table : Bytes) (c : Call) → eqb (agent table c .number) 0 ≡ true → agent table c .tally ≡ tallyIn (agent table c .table)
+  pub tally-stays : (table : Bytes) (c : Call) → agent table c .table ≡ table → agent table c .tally ≡ c .tally
+  -- carried along from a table's own tally it is never refused; so from an all-zero table of n slots with n, 0, 0, 0, 0
+  pub carries-on : (table : Bytes) (cs : List Call) → Carries table (tallyIn table) cs → In 106 (numbersThen table cs) → ⊥
+  pub never-106 : (n : ℕ) → 1 ≤ n → n ≤ 15 → (cs : List Call) → Carries (blankTable n) (tallyWith n 0 0 0 0) cs → In 106 (numbersThen (blankTable n) cs) → ⊥
   -- PROFILE 5.1: the search from a start: the first empty slot on its way, if there is one, and no other; none exactly where every slot is taken, so
   -- from any two starts alike; from slot 0 the lowest
   pub first-empty : (start : ℕ) (t : List Slot) → start < length t → (Full t → ⊥) → FirstEmpty start t (firstEmptyFrom start t)
@@ -143,6 +160,7 @@ pub record Theorems : Type 0 where
   pub histories-hold : HistoryCases.Hold
   pub demands-hold : DemandCases.Hold
   pub starts-hold : StartCases.Hold
+  pub tallies-hold : TallyCases.Hold
   -- PROFILE 8.3, of every table of 1 to 15 slots and every sequence of calls
   pub demand-3 : (n : ℕ) → 1 ≤ n → n ≤ 15 → (cs : List Call) → Demand3 n cs
   -- PROFILE 8.4: only a setup depends on the start at all, and of it only the slot: calls and sequences of calls that differ in their starts alone, on tables

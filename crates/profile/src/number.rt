@@ -10,6 +10,8 @@ pub const START_OUTSIDE: u16 = 105;
 
 pub const TABLE_NOT_WELL_FORMED: u16 = 103;
 
+pub const TALLY_DIFFERS: u16 = 106;
+
 pub const NO_FRAME: u16 = 104;
 
 // The request writer's.
