@@ -1,6 +1,7 @@
 -- the table, slot by slot
 pub mod SlotParts
 pub mod Turns
+pub mod Backward
 pub mod Searching
 pub mod WellTables
 -- looking up
