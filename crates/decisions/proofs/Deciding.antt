@@ -4,14 +4,16 @@ use mathlib.Core.Path.{_≡_, refl, sym, ap, _∙_}
 use mathlib.Core.List.{List}
 use mathlib.Core.Bool.{Bool, true, false, false≢true}
 use native.Mathlib.Omega.{arith}
-use lib.ListN.{drop}
+use mathlib.Core.Option.{some}
+use lib.ListN.{length, drop, set, getElem?}
 use Rattle.profile.specs.Bytes.{Bytes, part, Bytes256}
-use Rattle.profile.specs.Sizes.{slotSize}
-use Rattle.profile.specs.Slot.{Right, Entry, reserved, enabled, disabled, Slot}
-use Rattle.profile.specs.Table.{placeOf, handleOf, slotsOf}
+use Rattle.profile.specs.Sizes.{slotSize, payloadAt}
+use Rattle.profile.specs.Slot.{Right, Entry, reserved, enabled, disabled, Slot, taken}
+use Rattle.profile.specs.Table.{placeOf, handleOf, lengthOf, rightOf, slotsOf}
 use Rattle.profile.specs.Frame.{notFound, duplicate, unexpected, code}
 use Rattle.profile.specs.Agent.{Answer, deny, one, find, whenFound}
-use Rattle.profile.proofs.Strings.{bytes-take, bytes-drop}
+use Rattle.profile.proofs.Strings.{bytes-take, bytes-drop, length-part}
+use Rattle.profile.proofs.Laws.{found-is}
 use Rattle.slots.specs.declared.place.Place.{Place}
 use Rattle.slots.specs.declared.place.Place.the-variants.{Empty, Reserved, Enabled, Disabled}
 use Rattle.tables.specs.declared.lookup.Lookup.{Lookup}
@@ -23,6 +25,9 @@ use Rattle.slots.proofs.Unpacking.{empty-taken, same-handle, unpack-empty, unpa
 use Rattle.tables.proofs.Records.{Standing, RecordAt, RecordFits, entryOf, absent-found, at-stands, record-at, record-fits, none-empty}
 use Rattle.changes.specs.Change.{slotAt, Has}
 use Rattle.changes.proofs.Standing.{taken-place}
+use Rattle.tallies.specs.declared.update.Change.the-variants.{Moved}
+use Rattle.tallies.specs.Changes.{placeIn, lengthIn, changeIn}
+use Rattle.tallies.proofs.Changing.{one-moved}
 use Rattle.decisions.specs.declared.decision.Takes.{Takes}
 use Rattle.decisions.specs.declared.decision.Decision.{Decision}
 use Rattle.decisions.specs.declared.decision.Decision.the-variants.{Refuse, Take}
@@ -136,6 +141,33 @@ module _ (T B h : Bytes) (bytes : Bytes256 T) (r : Ready T B) (i : ℕ) where
       number Reserved l = taken-place s s-bytes h (entryOf Reserved s) (record-at T h i Reserved l .unpacked)
       number Enabled l = taken-place s s-bytes h (entryOf Enabled s) (record-at T h i Enabled l .unpacked)
       number Disabled l = taken-place s s-bytes h (entryOf Disabled s) (record-at T h i Disabled l .unpacked)
+
+-- ---- what changes where the slot of such a record becomes x, at another place
+right-length : {s : Bytes} → RecordFits s → length (rightOf s .payload) ≡ lengthOf s
+right-length {s} f = length-part payloadAt (lengthOf s) s (omega (arith, f .sized, f .long .1))
+
+module _ {T h : Bytes} {i : ℕ} where
+  stands-there : {p : Place} → Held T h i p → getElem? (slotsOf T) i ≡ some (taken h (entryOf p (slotAt T i)))
+  stands-there w = rw (w .found) at (found-is h (slotsOf T))
+
+  pub moved-from : (p : Place) → Held T h i p → (p ≡ Empty → ⊥) → (x : Slot) → (placeNumber p ≡ placeNumber (placeIn x) → ⊥)
+      → Moved p (lengthOf (slotAt T i)) (placeIn x) (lengthIn x) ≡ changeIn (slotsOf T) (set (slotsOf T) i x)
+  moved-from Empty w filled x n = absurd (filled refl)
+  moved-from Reserved w filled x n = sym (one-moved (slotsOf T) i _ x (stands-there w) n)
+  moved-from Enabled w filled x n =
+      ap (λ (m : ℕ). Moved Enabled m (placeIn x) (lengthIn x)) (sym (right-length (w .fits)))
+      ∙ sym (one-moved (slotsOf T) i _ x (stands-there w) n)
+  moved-from Disabled w filled x n =
+      ap (λ (m : ℕ). Moved Disabled m (placeIn x) (lengthIn x)) (sym (right-length (w .fits)))
+      ∙ sym (one-moved (slotsOf T) i _ x (stands-there w) n)
+
+  -- a right that goes from one place to another with its payload
+  pub right-moves : (p : Place) → Held T h i p → (p ≡ Empty → ⊥) → (n : ℕ) → n ≡ lengthOf (slotAt T i) → (q : Place) (x : Slot)
+      → placeIn x ≡ q → lengthIn x ≡ length (rightOf (slotAt T i) .payload) → (placeNumber p ≡ placeNumber q → ⊥)
+      → Moved p n q n ≡ changeIn (slotsOf T) (set (slotsOf T) i x)
+  right-moves p w filled n e q x placed long other =
+      rw (e, ← placed)
+      (ap (λ (m : ℕ). Moved p (lengthOf (slotAt T i)) (placeIn x) m) (sym (long ∙ right-length (w .fits))) ∙ moved-from p w filled x (rw placed other))
 
 -- ---- the places that a request takes, where there is one only
 only-reserved : (p : Place) → takesPlace awaited p ≡ true → p ≡ Reserved

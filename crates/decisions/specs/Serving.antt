@@ -1,4 +1,4 @@
--- What a function that serves a request takes for granted, and what it does to the table and the reply buffer.
+-- What a function that serves a request takes for granted, what it does to the table and the reply buffer, and what it says that it changed.
 use Prim.Native.Nat.{ℕ, _≤_}
 use mathlib.Core.Path.{_≡_}
 use mathlib.Core.Bool.{true}
@@ -8,6 +8,8 @@ use Rattle.profile.specs.Sizes.{replyRoom}
 use Rattle.profile.specs.Table.{slotsOf, wholeSlots, wellTable}
 use Rattle.profile.specs.Request.{Request}
 use Rattle.profile.specs.Agent.{Answer, act, replied}
+use Rattle.tallies.specs.declared.update.Change.{Change}
+use Rattle.tallies.specs.Changes.{changeBy}
 
 -- a table and a reply buffer that passed the tests for 101, 102 and 103
 pub record Ready (table buffer : Bytes) : Type 0 where
@@ -23,7 +25,8 @@ answerAt free table q = act free (slotsOf table) q
 abbrev pub answerTo : Bytes → Request → Answer
 answerTo table q = answerAt 0 table q
 
--- the table and the reply buffer afterwards, every byte of them, are those of the answer
-pub record Serves (kind : ℕ) (a : Answer) (table buffer table' buffer' : Bytes) : Type 0 where
+-- the table and the reply buffer afterwards, every byte of them, are those of the answer, and so is the change
+pub record Serves (kind : ℕ) (a : Answer) (table buffer table' buffer' : Bytes) (change : Change) : Type 0 where
   pub table-is : table' ≡ replied kind a table buffer .table
   pub reply-is : buffer' ≡ replied kind a table buffer .reply
+  pub change-is : change ≡ changeBy (slotsOf table) a

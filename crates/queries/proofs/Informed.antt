@@ -13,6 +13,8 @@ use Rattle.profile.specs.Agent.{Answer, find, infoAt, act, givenBit, writeGiven
 use Rattle.reply_writer.specs.Written.{infoOf}
 use Rattle.slots.specs.declared.place.Place.the-variants.{Enabled}
 use Rattle.tables.specs.LookUp.{foundAt}
+use Rattle.tallies.specs.declared.update.Change.the-variants.{Same}
+use Rattle.tallies.specs.Changes.{changeIn}
 use Rattle.decisions.specs.declared.decision.Decision.{Decision}
 use Rattle.decisions.specs.declared.decision.Decision.the-variants.{Refuse}
 use Rattle.decisions.specs.Decisions.{lendable, decided}
@@ -30,12 +32,12 @@ module _ (t b h : Bytes) where
   unfolding act
   info-refused d e n q r x =
       let expected : Expects lendable told = expects lendable told (λ _ i n. refl) (λ q. absurd (true≢false q)) (λ _ i r. refl) in
-      let s : Serves 9 (answerTo t (info h)) t b t r = refused-serves (refuses h (slotsOf t) lendable told expected d e n q) x in
+      let s : Serves 9 (answerTo t (info h)) t b t r Same = refused-serves (refuses h (slotsOf t) lendable told expected d e n q) x in
       s .reply-is
 
   pub info-done : (i : ℕ) → Held t h i Enabled → (s : Bytes) → s ≡ part (slotSize * i) slotSize t
       → (r : Bytes) → r ≡ over (frame 9 (128 * givenBit (infoOf (rightOf s))) (writeGiven (infoOf (rightOf s)))) b → r ≡ replyTo 9 (info h) t b
   unfolding act
   info-done i w s es r x =
-      let d : Serves 9 (answerTo t (info h)) t b (tableOf (slotsOf t)) r = done-serves {g = infoOf (rightOf s)} (rw (w .found, ← w .lent, ← es)) refl x in
+      let d : Serves 9 (answerTo t (info h)) t b (tableOf (slotsOf t)) r (changeIn (slotsOf t) (slotsOf t)) = done-serves {g = infoOf (rightOf s)} (rw (w .found, ← w .lent, ← es)) refl x refl in
       d .reply-is

@@ -1,6 +1,6 @@
 -- Why a frame is no request fixes the number and the reply. Assumes nothing.
 use Prim.Native.Nat.{ℕ, _+_, _≤_}
-use mathlib.Core.Path.{_≡_, refl, sym, _∙_}
+use mathlib.Core.Path.{_≡_, refl, sym, ap, _∙_}
 use mathlib.Core.List.{[]}
 use mathlib.Core.Bool.{_&&_, not}
 use lib.Dec.{leb, eqb}
@@ -9,7 +9,8 @@ use Rattle.profile.specs.Bytes.{Bytes, if_then_else_, word, over}
 use Rattle.profile.specs.Sizes.{notAFrame}
 use Rattle.profile.specs.Frame.{kindNumber, frame, isFrame, versionHolds, kindOf, Refusal, parameter, code}
 use Rattle.profile.specs.Request.{Read, asks, refused, noFrame, zeroBits, readKind, readRequest}
-use Rattle.profile.specs.Agent.{replyFrame}
+use Rattle.profile.specs.Tally.{Tally}
+use Rattle.profile.specs.Agent.{replyFrame, Outcome}
 use Rattle.profile.proofs.Logic.{and-parts, leb-le, if-else, not-false}
 use Rattle.request_reader.specs.declared.asked.Why.{Why}
 use Rattle.request_reader.specs.declared.asked.Why.the-variants.{NoFrame}
@@ -38,9 +39,9 @@ pub refused-long : (f : Bytes) (w : Why) (x : Refusal) → whyMeans w ≡ readRe
 refused-long f w x e d = rw (sym e ∙ d) at (long-read f)
 
 pub refuses-no-frame : (f buffer : Bytes) (w : Why) → w ≡ NoFrame → Refuses f w buffer notAFrame buffer
-refuses-no-frame f buffer w e = record { on-any = λ free t table. rw e refl }
+refuses-no-frame f buffer w e = record { on-any = λ free t table c b _. rw (e, ← b) refl }
 
 pub refuses-with : (f buffer : Bytes) (w : Why) (x : Refusal) (n : ℕ) (buffer' : Bytes) → whyMeans w ≡ refused x → n ≡ 0
     → buffer' ≡ over (frame (kindNumber f) (code x) []) buffer → Refuses f w buffer n buffer'
 unfolding replyFrame
-refuses-with f buffer w x n buffer' d z e = record { on-any = λ free t table. rw (d, z, e) refl }
+refuses-with f buffer w x n buffer' d z e = record { on-any = λ free t table c b y. rw (d, z, e, ← b) (ap {B = Outcome} (λ (i : Tally). record { number = 0; reply = over (frame (kindNumber f) (code x) []) (c .buffer); table = table; tally = i }) y) }

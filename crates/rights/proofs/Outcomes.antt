@@ -10,21 +10,25 @@ use denote.Enum.Declared.{tagOf}
 use lib.ListN.{set}
 use Rattle.profile.specs.Bytes.{Bytes, Bytes256}
 use Rattle.profile.specs.Slot.{Count, Right, recount, Entry, enabled, disabled, taken, inUse}
-use Rattle.profile.specs.Table.{handleOf, rightOf, slotsOf}
+use Rattle.profile.specs.Table.{handleOf, lengthOf, rightOf, slotsOf}
 use Rattle.profile.specs.Frame.{duplicate}
 use Rattle.profile.specs.Request.{retrieve, rek, enable}
 use Rattle.profile.specs.Agent.{Given, Answer, nothing, done, find, whenFound, lendAt, enableAt, act}
 use Rattle.slots.specs.declared.place.Place.{Place}
 use Rattle.slots.specs.declared.place.Place.the-variants.{Empty, Reserved, Enabled, Disabled}
+use Rattle.slots.specs.Places.{placeNumber}
 use Rattle.slots.proofs.place.Place.{the-type}
 use Rattle.tables.specs.LookUp.{foundAt}
 use Rattle.changes.specs.Change.{slotAt}
+use Rattle.tallies.specs.declared.update.Change.{Change}
+use Rattle.tallies.specs.declared.update.Change.the-variants.{Moved}
+use Rattle.tallies.specs.Changes.{changeIn}
 use Rattle.decisions.specs.declared.decision.Decision.{Decision}
 use Rattle.decisions.specs.declared.decision.Decision.the-variants.{Refuse, Take}
 use Rattle.decisions.specs.Decisions.{takesPlace, lendable, installed, decided, unlessUsed}
 use Rattle.decisions.specs.Serving.{Ready, Serves, answerTo}
 use Rattle.decisions.proofs.Answers.{Denied}
-use Rattle.decisions.proofs.Deciding.{expects, refuses, Held, chosen-enabled, lending-refused, lending-decided}
+use Rattle.decisions.proofs.Deciding.{expects, refuses, Held, chosen-enabled, lending-refused, lending-decided, right-moves}
 use Rattle.rights.specs.Lending.{lentBy}
 
 -- ---- 3 and 4, by the decision d, whatever they give
@@ -51,12 +55,17 @@ module _ (T B h k : Bytes) (bytes : Bytes256 T) (r : Ready T B) (d : Decision) (
     pub lends : (give : Right → Given) → whenFound (find h (slotsOf T)) (lendAt (slotsOf T) k give) ≡ done (give (rightOf (slotAt T i))) (set (slotsOf T) i (taken k (disabled (rightOf (slotAt T i)))))
     lends give = rw (to-lend .found, free .0)
 
-module _ {T B T' B' : Bytes} (h k : Bytes) where
-  pub retrieved : Serves 3 (whenFound (find h (slotsOf T)) (lendAt (slotsOf T) k (lentBy 3))) T B T' B' → Serves 3 (answerTo T (retrieve h k)) T B T' B'
+-- the right was enabled, and is lent with its payload
+pub lend-moves : (T h k : Bytes) (i : ℕ) → Held T h i Enabled → (n : ℕ) → n ≡ lengthOf (slotAt T i)
+    → Moved Enabled n Disabled n ≡ changeIn (slotsOf T) (set (slotsOf T) i (taken k (disabled (rightOf (slotAt T i)))))
+lend-moves T h k i w n e = right-moves Enabled w (λ q. omega (arith, ap placeNumber q)) n e Disabled _ refl refl (λ q. omega (arith, q))
+
+module _ {T B T' B' : Bytes} {y : Change} (h k : Bytes) where
+  pub retrieved : Serves 3 (whenFound (find h (slotsOf T)) (lendAt (slotsOf T) k (lentBy 3))) T B T' B' y → Serves 3 (answerTo T (retrieve h k)) T B T' B' y
   unfolding act
   retrieved s = s
 
-  pub queried : Serves 4 (whenFound (find h (slotsOf T)) (lendAt (slotsOf T) k (lentBy 4))) T B T' B' → Serves 4 (answerTo T (rek h k)) T B T' B'
+  pub queried : Serves 4 (whenFound (find h (slotsOf T)) (lendAt (slotsOf T) k (lentBy 4))) T B T' B' y → Serves 4 (answerTo T (rek h k)) T B T' B' y
   unfolding act
   queried s = s
 
@@ -86,3 +95,8 @@ module _ (T h : Bytes) (c : Count) where
   returned i w =
       rw (w .found)
       (ap (λ (k : Bytes). done nothing (set (slotsOf T) i (taken k (enabled (recount c (rightOf (slotAt T i))))))) (sym (w .handle-is)))
+
+  -- the right was lent, and is enabled with its payload
+  pub return-moves : (i : ℕ) → Held T h i Disabled → (n : ℕ) → n ≡ lengthOf (slotAt T i)
+      → Moved Disabled n Enabled n ≡ changeIn (slotsOf T) (set (slotsOf T) i (taken (handleOf (slotAt T i)) (enabled (recount c (rightOf (slotAt T i))))))
+  return-moves i w n e = right-moves Disabled w (λ q. omega (arith, ap placeNumber q)) n e Enabled _ refl refl (λ q. omega (arith, q))

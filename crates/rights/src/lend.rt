@@ -1,6 +1,9 @@
 // Kinds 3 and 4, Rights Retrieval and REK Query: a right is lent. They differ in what the reply gives.
 use decisions::decision::Decision;
 use profile::sizes::HANDLE_BYTES;
+use profile::slot::LENGTH_AT;
+use slots::place::Place;
+use tallies::update::Change;
 ghost use mathlib.Core.Path.{_≡_};
 ghost use Prim.Native.Nat.{_*_, _≤_};
 ghost use lib.ListN.{length};
@@ -32,15 +35,21 @@ pub fn lend(
     h: [u8; HANDLE_BYTES],
     k: [u8; HANDLE_BYTES],
     kind: u8,
-)
+) -> Change
     requires { ⌜ Ready (now table) (now reply) × (3 ≤ kind) × (kind ≤ 4) ⌝ }
-    ensures { λ _. ⌜ Serves kind (whenFound (find h (slotsOf (now (table .entry)))) (lendAt (slotsOf (now (table .entry))) k (lentBy kind))) (now (table .entry)) (now (reply .entry)) (now (table .exit)) (now (reply .exit)) ⌝ }
+    ensures { λ r. ⌜ Serves kind (whenFound (find h (slotsOf (now (table .entry)))) (lendAt (slotsOf (now (table .entry))) k (lentBy kind))) (now (table .entry)) (now (reply .entry)) (now (table .exit)) (now (reply .exit)) r ⌝ }
 {
     match decisions::lending::slot_to_lend(table, h, k) {
-        Decision::Refuse(status) => reply_writer::writer::reply_status(reply, kind, status),
+        Decision::Refuse(status) => {
+            reply_writer::writer::reply_status(reply, kind, status);
+            Change::Same
+        }
         Decision::Take(i, _) => {
-            reply_lent(reply, tables::part::slot_at(table, i), kind);
-            changes::relabel(table, i, k)
+            let slot = tables::part::slot_at(table, i);
+            let length = words::word_at(slot, LENGTH_AT);
+            reply_lent(reply, slot, kind);
+            changes::relabel(table, i, k);
+            Change::Moved(Place::Enabled, length, Place::Disabled, length)
         }
     }
 }

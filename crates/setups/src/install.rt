@@ -7,6 +7,8 @@ use profile::sizes::KEY_BYTES;
 use profile::slot::LENGTH_AT;
 use profile::status::NOT_ENOUGH_SPACE;
 use profile::status::SUCCESS;
+use slots::place::Place;
+use tallies::update::Change;
 ghost use Rattle.profile.specs.Request.{install as installation};
 ghost use Rattle.changes.specs.Change.{rightFrom};
 ghost use Rattle.decisions.specs.Serving.{Ready, Serves, answerTo};
@@ -24,20 +26,24 @@ pub fn install(
     frame: &[u8],
     at: usize,
     size: usize,
-)
+) -> Change
     requires { ⌜ Ready (now table) (now reply) × Sent (now frame) at hashes size ⌝ }
-    ensures { λ _. ⌜ Serves 2 (answerTo (now (table .entry)) (installation h (rightFrom key count hashes size (now (frame .entry)) at))) (now (table .entry)) (now (reply .entry)) (now (table .exit)) (now (reply .exit)) ⌝ }
+    ensures { λ r. ⌜ Serves 2 (answerTo (now (table .entry)) (installation h (rightFrom key count hashes size (now (frame .entry)) at))) (now (table .entry)) (now (reply .entry)) (now (table .exit)) (now (reply .exit)) r ⌝ }
 {
     match decisions::decision::slot_under(table, h, AWAITED) {
-        Decision::Refuse(status) => reply_writer::writer::reply_status(reply, 2, status),
+        Decision::Refuse(status) => {
+            reply_writer::writer::reply_status(reply, 2, status);
+            Change::Same
+        }
         Decision::Take(i, _) => {
-            let room = words::word_at(tables::part::slot_at(table, i), LENGTH_AT) as usize;
-            if room < size {
+            let room = words::word_at(tables::part::slot_at(table, i), LENGTH_AT);
+            if (room as usize) < size {
                 reply_writer::writer::reply_status(reply, 2, NOT_ENOUGH_SPACE);
-                return;
+                return Change::Same;
             }
             changes::store_right(table, i, h, key, count, hashes, frame, at, size);
-            reply_writer::writer::reply_status(reply, 2, SUCCESS)
+            reply_writer::writer::reply_status(reply, 2, SUCCESS);
+            Change::Moved(Place::Reserved, room, Place::Enabled, size as u16)
         }
     }
 }

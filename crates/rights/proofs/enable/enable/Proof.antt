@@ -1,15 +1,17 @@
 -- `rights::enable::enable` meets its contract: refused as it was decided, kept as it is, or enabled again. Assumes nothing.
 use denote.Ref.{now}
-use mathlib.Core.Path.{_≡_}
+use mathlib.Core.Path.{_≡_, ap, _∙_}
 use mathlib.Core.Bool.{true}
 use Rattle.profile.specs.Bytes.{Bytes256}
+use Rattle.profile.specs.Table.{lengthOf}
 use Rattle.octets.proofs.ByteBounds.{below-256}
+use Rattle.changes.specs.Change.{slotAt}
 use Rattle.slots.specs.declared.place.Place.{Place}
 use Rattle.slots.specs.declared.place.Place.the-variants.{Disabled}
 use Rattle.decisions.specs.Decisions.{takesPlace, installed}
 use Rattle.decisions.proofs.Answers.{refused-serves, done-serves, kept-serves}
 use Rattle.decisions.proofs.Deciding.{Held, chosen}
-use Rattle.rights.proofs.Outcomes.{not-disabled, enable-refused, stays, returned}
+use Rattle.rights.proofs.Outcomes.{not-disabled, enable-refused, stays, returned, return-moves}
 use borrow.Author.Needs.{needs}
 use Rattle.rights.proofs.enable.enable.Statement.{statement}
 use Rattle.rights.proofs.enable.enable.Tie as tie
@@ -32,6 +34,12 @@ found at =
 
 disabled : (told : tie.After-enum-told) → Record (told .before .before .before) Disabled
 disabled told = rw (told .enum-told .given .1) at (found (told .before .before .before) .0)
+
+-- the record's length
+length-is : (r : tie.After-word-at)
+    → r .word-at .result
+    ≡ lengthOf (slotAt (now (start (r .before .before .before .before .before .before .before .before) .args .table)) (r .before .before .before .before .before .before .i .given .0 .0))
+length-is r = r .word-at .ensures ∙ ap lengthOf (r .before .slot-at .ensures .0 ∙ disabled (r .before .before .before) .lent)
 
 slot-under-requires : tie.Need-slot-under-requires
 slot-under-requires c κs = search needs
@@ -65,9 +73,15 @@ returns c =
     let d = at .before .before in
     kept-serves (bytes d) (start d .pre) (stays _ _ (start d .args .count) _ _ (found at) (not-disabled _ (other .match2 .keys2))) (replied .reply-status2 .ensures)
 
+slot-at-requires : tie.Need-slot-at-requires
+slot-at-requires c κs = disabled (c .before) .has .inside
+
+word-at-requires : tie.Need-word-at-requires
+word-at-requires c κs = search needs
+
 give-back-requires : tie.Need-give-back-requires
 give-back-requires c κs =
-    let w = disabled (c .before) in
+    let w = disabled (c .before .before .before .before) in
     (w .has, w .place-is)
 
 reply-status-requires-3 : tie.Need-reply-status-requires-3
@@ -95,9 +109,10 @@ same-length-6 c = search needs
 returns-3 : tie.Need-returns-3
 returns-3 c =
     let changed = c .before .before .before .before .before .before in
-    let told = changed .before .before in
+    let read = changed .before .before in
+    let told = read .before .before .before in
     let d = told .before .before .before .before .before in
-    done-serves (returned _ _ (start d .args .count) _ (disabled told)) (changed .give-back .ensures) (c .before .before .reply-status3 .ensures)
+    done-serves (returned _ _ (start d .args .count) _ (disabled told)) (changed .give-back .ensures) (c .before .before .reply-status3 .ensures) (return-moves _ _ _ _ (disabled told) _ (length-is read))
 
 pub enable-spec : {M : Type 1} → statement M
 enable-spec =
@@ -112,6 +127,8 @@ enable-spec =
     same-length
     same-length-2
     returns
+    slot-at-requires
+    word-at-requires
     give-back-requires
     reply-status-requires-3
     same-length-3

@@ -1,17 +1,18 @@
 -- `rights::lend::lend` meets its contract: refused as it was decided, or the reply from the slot and the slot lent. Assumes nothing.
 use denote.Ref.{now}
 use Prim.Native.Nat.{_*_}
-use mathlib.Core.Path.{ap, _∙_}
+use mathlib.Core.Path.{_≡_, ap, _∙_}
 use Rattle.profile.specs.Bytes.{Bytes, over, Bytes256}
-use Rattle.profile.specs.Table.{rightOf}
+use Rattle.profile.specs.Table.{lengthOf, rightOf}
 use Rattle.profile.specs.Frame.{frame}
 use Rattle.profile.specs.Agent.{givenBit, writeGiven}
 use Rattle.octets.proofs.ByteBounds.{below-256}
+use Rattle.changes.specs.Change.{slotAt}
 use Rattle.slots.specs.declared.place.Place.the-variants.{Enabled}
 use Rattle.decisions.proofs.Answers.{refused-serves, done-serves}
 use Rattle.decisions.proofs.Deciding.{Held, fits-lent}
 use Rattle.rights.specs.Lending.{lentBy}
-use Rattle.rights.proofs.Outcomes.{lend-refused, to-lend, lends}
+use Rattle.rights.proofs.Outcomes.{lend-refused, to-lend, lends, lend-moves}
 use borrow.Author.Needs.{needs}
 use Rattle.rights.proofs.lend.lend.Statement.{statement}
 use Rattle.rights.proofs.lend.lend.Tie as tie
@@ -28,6 +29,11 @@ found at =
     let d = at .before .before in
     to-lend _ _ _ _ (bytes d) (start d .pre .0) _ (d .slot-to-lend .ensures) _ _ (at .i .given .1)
 
+-- the record's length
+length-is : (r : tie.After-word-at)
+    → r .word-at .result ≡ lengthOf (slotAt (now (start (r .before .before .before .before .before .before) .args .table)) (r .before .before .before .before .i .given .0 .0))
+length-is r = r .word-at .ensures ∙ ap lengthOf (r .before .slot-at .ensures .0 ∙ found (r .before .before .before .before) .lent)
+
 slot-to-lend-requires : tie.Need-slot-to-lend-requires
 slot-to-lend-requires c κs = search needs
 
@@ -41,20 +47,24 @@ enum-known-i : tie.Need-enum-known-i
 enum-known-i c = search needs
 
 slot-at-requires : tie.Need-slot-at-requires
-slot-at-requires c κs = found (c .before .before .before) .has .inside
+slot-at-requires c κs = found (c .before .before) .has .inside
+
+word-at-requires : tie.Need-word-at-requires
+word-at-requires c κs = search needs
 
 reply-lent-requires : tie.Need-reply-lent-requires
 reply-lent-requires c κs =
-    let at = c .before .before .before .before in
+    let lent = c .before .before in
+    let at = lent .before .before .before in
     let pre = start (at .before .before) .pre in
     let w = found at in
-    let f = fits-lent _ _ (c .slot-at .ensures .0 ∙ w .lent) (w .fits) in
+    let f = fits-lent _ _ (lent .slot-at .ensures .0 ∙ w .lent) (w .fits) in
     (pre .1, pre .2, pre .0 .room, f .sized, f .few, f .long .1)
 
 relabel-requires : tie.Need-relabel-requires
 relabel-requires c κs =
-    let lent = c .before .before .before .before in
-    let w = found (lent .before .before .before .before) in
+    let read = c .before .before .before .before .before in
+    let w = found (read .before .before .before .before) in
     (w .has, w .place-is)
 
 same-length : tie.Need-same-length
@@ -80,13 +90,14 @@ returns-2 : tie.Need-returns-2
 returns-2 c =
     let changed = c .before .before in
     let replied = changed .before .before .before .before in
-    let lent = replied .before in
-    let at = lent .before .before .before .before in
+    let read = replied .before .before in
+    let lent = read .before in
+    let at = lent .before .before .before in
     let d = at .before .before in
     let a = start d .args in
     let given : Bytes → Bytes = λ s. over (frame (a .kind) (128 * givenBit (lentBy (a .kind) (rightOf s))) (writeGiven (lentBy (a .kind) (rightOf s)))) (now (a .reply)) in
     done-serves (lends _ _ _ _ (bytes d) (start d .pre .0) _ (d .slot-to-lend .ensures) _ _ (at .i .given .1) (lentBy (a .kind))) (changed .relabel .ensures)
-    (replied .reply-lent .ensures ∙ ap given (lent .slot-at .ensures .0 ∙ found at .lent))
+    (replied .reply-lent .ensures ∙ ap given (lent .slot-at .ensures .0 ∙ found at .lent)) (lend-moves _ _ _ _ (found at) _ (length-is read))
 
 pub lend-spec : {M : Type 1} → statement M
 lend-spec =
@@ -97,6 +108,7 @@ lend-spec =
     reply-status-requires
     enum-known-i
     slot-at-requires
+    word-at-requires
     reply-lent-requires
     relabel-requires
     same-length

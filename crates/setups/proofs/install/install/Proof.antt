@@ -13,7 +13,7 @@ use Rattle.octets.proofs.ByteBounds.{below-256}
 use Rattle.slots.specs.declared.place.Place.the-variants.{Reserved}
 use Rattle.decisions.proofs.Answers.{refused-serves, done-serves}
 use Rattle.decisions.proofs.Deciding.{Held, chosen-reserved}
-use Rattle.setups.proofs.Outcomes.{install-refused, too-long, installs}
+use Rattle.setups.proofs.Outcomes.{install-refused, too-long, installs, install-moves}
 use borrow.Author.Needs.{needs}
 use Rattle.setups.proofs.install.install.Statement.{statement}
 use Rattle.setups.proofs.install.install.Tie as tie
@@ -58,8 +58,8 @@ slot-at-requires c κs = found (c .before .before) .has .inside
 word-at-requires : tie.Need-word-at-requires
 word-at-requires c κs = search needs
 
-cast-room : tie.Need-cast-room
-cast-room c = search needs
+cast-if1 : tie.Need-cast-if1
+cast-if1 c = search needs
 
 reply-status-requires-2 : tie.Need-reply-status-requires-2
 reply-status-requires-2 c κs = search needs
@@ -90,6 +90,9 @@ store-right-requires c κs =
 reply-status-requires-3 : tie.Need-reply-status-requires-3
 reply-status-requires-3 c κs = search needs
 
+cast-t36 : tie.Need-cast-t36
+cast-t36 c = search needs
+
 same-length-3 : tie.Need-same-length-3
 same-length-3 c = search needs
 
@@ -118,6 +121,7 @@ returns-3 c =
     let room = room-is (long .before) in
     let size = size-is s in
     done-serves (installs _ _ (right s) (found at) (omega (arith, size, room, long .if1 .left))) (changed .store-right .ensures) (c .before .before .reply-status3 .ensures)
+    (install-moves _ _ (right s) (found at) _ _ room size)
 
 pub install-spec : {M : Type 1} → statement M
 install-spec =
@@ -129,13 +133,14 @@ install-spec =
     enum-known-i
     slot-at-requires
     word-at-requires
-    cast-room
+    cast-if1
     reply-status-requires-2
     same-length
     same-length-2
     returns
     store-right-requires
     reply-status-requires-3
+    cast-t36
     same-length-3
     same-length-4
     returns-2

@@ -5,7 +5,7 @@ use mathlib.Core.Bool.{false}
 use Rattle.profile.specs.Slot.{inUse}
 use Rattle.profile.specs.Table.{slotsOf}
 use Rattle.decisions.proofs.Answers.{refused-serves, done-serves}
-use Rattle.setups.proofs.Outcomes.{no-length, handle-used, no-room, has-room, sets-up}
+use Rattle.setups.proofs.Outcomes.{no-length, handle-used, no-room, has-room, sets-up, setup-moves}
 use borrow.Author.Needs.{needs}
 use Rattle.setups.proofs.setup.set_up.Statement.{statement}
 use Rattle.setups.proofs.setup.set_up.Tie as tie
@@ -87,8 +87,10 @@ returns-4 c =
     let changed = c .before .before .before .before .before .before in
     let room = changed .before .before in
     let new = room .before .before .before in
+    let s = start (new .before .before .before) in
     done-serves (sets-up _ _ _ _ (new .before .before .before .if1 .left) (fresh new) _ (room .before .first-empty-from .ensures) (room .if3 .left))
     (changed .store-reservation .ensures) (c .before .before .reply-status4 .ensures)
+    (setup-moves _ _ (s .args .start) (s .pre .1) _ _ (room .before .first-empty-from .ensures) (room .if3 .left))
 
 pub set-up-spec : {M : Type 1} → statement M
 set-up-spec =
