@@ -2,6 +2,7 @@
 use Prim.Native.Nat.{ℕ}
 use mathlib.Core.Path.{_≡_}
 use Rattle.profile.specs.Bytes.{Bytes}
+use Rattle.profile.specs.Tally.{Tally}
 use Rattle.profile.specs.Agent.{Call, Outcome}
 use Rattle.request_reader.specs.declared.asked.Why.{Why}
 use Rattle.request_reader.specs.declared.asked.Why.the-variants.{NoFrame}
@@ -11,13 +12,13 @@ use Rattle.request_reader.specs.declared.asked.Ask.the-variants.{No, Yes}
 use Rattle.request_reader.specs.declared.asked.Asked.{Asked}
 use Rattle.request_reader.specs.Answer.{Answers}
 
--- the number, and the reply buffer and the table afterwards
-abbrev pub outcome : ℕ → Bytes → Bytes → Outcome
-outcome n reply table = record { number = n; reply = reply; table = table }
+-- the number, and the reply buffer, the table and the tally afterwards
+abbrev pub outcome : ℕ → Bytes → Bytes → Tally → Outcome
+outcome n reply table tally = record { number = n; reply = reply; table = table; tally = tally }
 
--- a call from this start, with this frame and this reply buffer
-abbrev pub callOf : ℕ → Bytes → Bytes → Call
-callOf start frame buffer = record { start = start; request = frame; buffer = buffer }
+-- a call with this tally, from this start, with this frame and this reply buffer
+abbrev pub callOf : Tally → ℕ → Bytes → Bytes → Call
+callOf tally start frame buffer = record { tally = tally; start = start; request = frame; buffer = buffer }
 
 -- why an answer is no request
 abbrev pub whyOf : Ask → Why

@@ -1,2 +1,3 @@
 pub mod SmallNumbers
 pub mod ReadInto
+pub mod Walk

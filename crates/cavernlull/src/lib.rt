@@ -1,8 +1,9 @@
-// What a front end or a device links: five functions under C's calling convention, declared for C in include/cavernlull.h. In C a slice is
+// What a front end or a device links: six functions under C's calling convention, declared for C in include/cavernlull.h. In C a slice is
 // a pointer and then a length, and an array is a pointer. Any bytes and any lengths may be lent. What is lent to be changed shares no byte
 // with anything else that is lent in the same call.
 use crate::numbers::REPLY_NUMBERS;
 use listing::LISTING_ROOM;
+use profile::Tally;
 use profile::number::DONE;
 use profile::sizes::HANDLE_BYTES;
 use profile::sizes::KEY_BYTES;
@@ -16,6 +17,7 @@ ghost use Rattle.profile.specs.Agent.{agent as agentOf};
 ghost use Rattle.profile.specs.Bytes.{over};
 ghost use Rattle.profile.specs.Device.{fieldsWith, write};
 ghost use Rattle.profile.specs.Listing.{listing};
+ghost use Rattle.profile.specs.Tally.{tallied, workOut};
 ghost use Rattle.profile.specs.Turning.{turn as turnOf};
 ghost use Rattle.agent.specs.Call.{outcome, callOf};
 ghost use Rattle.request_writer.specs.Writing.{wrote};
@@ -23,17 +25,31 @@ ghost use Rattle.turning.specs.Turns.{turned};
 ghost use Rattle.cavernlull.specs.Numbers.{left, ReadsInto};
 
 // The card agent (PROFILE 1.1): answers one request frame. A setup searches for an empty slot from `start`. With 0 the reply stands at the
-// start of `reply`, whose other bytes stay, and `table` is as the request leaves it. With 101 to 105 (PROFILE 4.1) nothing is changed.
+// start of `reply`, whose other bytes stay, `table` is as the request leaves it, and `tally` is the tally of that table. With 101 to 106
+// (PROFILE 4.1) nothing is changed.
 #[no_mangle]
 pub extern "C" fn cavernlull_call(
     table: &mut [u8],
+    tally: &mut Tally,
     start: usize,
     frame: &[u8],
     reply: &mut [u8],
 ) -> u16
-    ensures { λ r. ⌜ outcome r (now (reply .exit)) (now (table .exit)) ≡ agentOf (now (table .entry)) (callOf start (now (frame .entry)) (now (reply .entry))) ⌝ }
+    ensures { λ r. ⌜ outcome r (now (reply .exit)) (now (table .exit)) (now (tally .exit)) ≡ agentOf (now (table .entry)) (callOf (now (tally .entry)) start (now (frame .entry)) (now (reply .entry))) ⌝ }
 {
-    agent::call(table, start, frame, reply)
+    let done = agent::call(table, *tally, start, frame, reply);
+    *tally = done.tally;
+    done.number
+}
+
+// Works out the tally of a table (PROFILE 2.8), whatever numbers `tally` has. With 102 and 103 nothing is changed.
+#[no_mangle]
+pub extern "C" fn cavernlull_tally(table: &[u8], tally: &mut Tally) -> u16
+    ensures { λ r. ⌜ tallied r (now (tally .exit)) ≡ workOut (now (table .entry)) (now (tally .entry)) ⌝ }
+{
+    let worked = tallies::work_out(table, *tally);
+    *tally = worked.tally;
+    worked.number
 }
 
 // The request writer of a device (PROFILE 6.2): takes a kind and the fields of all kinds, of which those that the kind lacks must be zero or

@@ -8,7 +8,7 @@ use Rattle.request_reader.specs.declared.asked.Ask.the-variants.{Yes}
 use Rattle.request_reader.proofs.ByCase.{install-within, list-within}
 use Rattle.octets.proofs.ByteBounds.{below-256}
 use Rattle.removals.proofs.Cleared.{removed, cancelled}
-use Rattle.queries.proofs.Untouched.{list-keeps, info-keeps}
+use Rattle.queries.proofs.Untouched.{list-keeps, info-keeps, list-same, info-same}
 use Rattle.agent.proofs.Steps.{served-at, served}
 use Rattle.agent.proofs.serve.Statement.{statement}
 use Rattle.agent.proofs.serve.Tie as tie
@@ -179,7 +179,7 @@ returns-8 c =
     let m = told .before .before in
     let s = start m in
     let kept = list-keeps (now (s .args .table)) (bytes m) (s .pre .0 .whole) (s .pre .0 .well) _ _ in
-    served (s .pre .2) _ (told .body3 .given .1) (omega arith) (record { table-is = sym kept; reply-is = done .handle-list .ensures })
+    served (s .pre .2) _ (told .body3 .given .1) (omega arith) (record { table-is = sym kept; reply-is = done .handle-list .ensures; change-is = list-same (now (s .args .table)) _ _ })
 
 same-length-17 : tie.Need-same-length-17
 same-length-17 c = search needs
@@ -194,7 +194,7 @@ returns-9 c =
     let m = told .before .before in
     let s = start m in
     let kept = info-keeps (now (s .args .table)) (bytes m) (s .pre .0 .whole) (s .pre .0 .well) _ in
-    served (s .pre .2) _ (told .enum-told6 .given .1) (omega arith) (record { table-is = sym kept; reply-is = done .info .ensures })
+    served (s .pre .2) _ (told .enum-told6 .given .1) (omega arith) (record { table-is = sym kept; reply-is = done .info .ensures; change-is = info-same (now (s .args .table)) _ })
 
 pub serve-spec : {M : Type 1} → statement M
 serve-spec =
