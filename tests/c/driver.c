@@ -5,7 +5,9 @@
  *
  *   command  arguments                                           answer
  *   t        string table                                        none: the table that is lent from here on
- *   c        start, strings frame, reply                         number, strings reply and table, as cavernlull_call left them
+ *   c        start, strings tally (10 bytes), frame, reply       number, strings tally, reply and table, as cavernlull_call
+ *                                                                left them
+ *   a        string tally (10 bytes)                             number, string tally, as cavernlull_tally left it
  *   w        numbers kind, room, count, kept, limit; strings     number, string out, as cavernlull_write_request left it
  *            handle, new handle, key, hashes, payload, out
  *   r        strings frame, key, fields (22 bytes)               number, strings key and fields, as cavernlull_read_reply
@@ -13,7 +15,8 @@
  *   l        string out (406 bytes)                              number, string out, as cavernlull_list left it
  *   u        none                                                number, string table, as cavernlull_turn left it
  *
- * Every string is lent so that it ends where memory ends: an access to the byte after it is a fault.
+ * Every string is lent so that it ends where memory ends: an access to the byte after it is a fault. A tally, and the fields of
+ * a reply, are 16-bit numbers, the low byte first; their lengths are even, so they are aligned where they end.
  * It ends with status 0 at the end of the input, and with 2 where the input is not a command or is too long.
  *
  * It is freestanding, so that the compiler and the linker are all that building it needs.
@@ -143,6 +146,18 @@ static struct lent take_array(struct area *area, size_t length) {
     return lent;
 }
 
+/* A tally ends at a multiple of PAGE, so it is aligned if it is its five numbers and nothing more. */
+_Static_assert(sizeof(struct cavernlull_tally) == 5 * sizeof(uint16_t), "a tally is its five numbers");
+_Static_assert(_Alignof(struct cavernlull_tally) == sizeof(uint16_t), "a tally is aligned as one of its numbers");
+
+static struct lent take_tally(struct area *area) {
+    return take_array(area, sizeof(struct cavernlull_tally));
+}
+
+static struct cavernlull_tally *tally_in(struct lent lent) {
+    return (struct cavernlull_tally *)(void *)lent.at;
+}
+
 static void give_string(struct lent lent) {
     give_number((uint32_t)lent.length);
     give(lent.at, lent.length);
@@ -154,11 +169,20 @@ static struct lent table = {table_area.wall, 0};
 
 static void call(void) {
     size_t start = take_start();
-    struct lent frame = take_string(&areas[0]);
-    struct lent reply = take_string(&areas[1]);
-    give_number(cavernlull_call(table.at, table.length, start, frame.at, frame.length, reply.at, reply.length));
+    struct lent tally = take_tally(&areas[0]);
+    struct lent frame = take_string(&areas[1]);
+    struct lent reply = take_string(&areas[2]);
+    give_number(cavernlull_call(table.at, table.length, tally_in(tally), start, frame.at, frame.length, reply.at,
+                                reply.length));
+    give_string(tally);
     give_string(reply);
     give_string(table);
+}
+
+static void work_out(void) {
+    struct lent tally = take_tally(&areas[0]);
+    give_number(cavernlull_tally(table.at, table.length, tally_in(tally)));
+    give_string(tally);
 }
 
 static void write_request(void) {
@@ -204,6 +228,7 @@ static _Noreturn __attribute__((used)) void run(void) {
         switch (input[taken++]) {
         case 't': table = take_string(&table_area); break;
         case 'c': call(); break;
+        case 'a': work_out(); break;
         case 'w': write_request(); break;
         case 'r': read_reply(); break;
         case 'l': list(); break;

@@ -1,25 +1,33 @@
-//! One call after another, and turnings, made by the archive and by the
-//! reference.
+//! One call after another, turnings, and tallies worked out, by the archive and
+//! by the reference.
 
-use driver::{Call, Driver, Turned};
+use crate::tallies::tally_of;
+use driver::{Call, Driver, Tallied, Tally, Turned};
+use reference::number::DONE;
 
-/// A table lent to the archive, and an equal one lent to the reference.
+/// A table lent to the archive, and an equal one lent to the reference, with its
+/// tally.
 pub struct Both {
     driver: Driver,
     table: Vec<u8>,
+    tally: Tally,
 }
 
 impl Both {
-    /// Starts with this table.
+    /// Starts with this table and its tally.
     pub fn on(table: Vec<u8>) -> Both {
-        let driver = Driver::start();
-        let mut both = Both { driver, table };
+        let mut both = Both {
+            driver: Driver::start(),
+            tally: tally_of(&table),
+            table,
+        };
         both.lend();
         both
     }
 
-    /// Goes on with this table.
+    /// Goes on with this table and its tally.
     pub fn go_on(&mut self, table: Vec<u8>) {
+        self.tally = tally_of(&table);
         self.table = table;
         self.lend();
     }
@@ -30,27 +38,77 @@ impl Both {
         sent.expect("the driver takes the table");
     }
 
-    /// Makes a call with this start, this frame and this reply buffer.
+    /// Makes a call with this start, this frame and this reply buffer, and with
+    /// the tally that the last call left.
     ///
     /// # Panics
     ///
     /// Where the archive and the reference differ.
     pub fn call(&mut self, start: u64, frame: &[u8], buffer: &[u8]) -> Call {
+        let given = self.call_with(self.tally, start, frame, buffer);
+        self.tally = given.tally;
+        given
+    }
+
+    /// Makes a call with this tally, which is not kept for the next call.
+    ///
+    /// # Panics
+    ///
+    /// Where the archive and the reference differ, or where the tally was that of
+    /// the table, so that there is one to be kept.
+    pub fn call_with_other(
+        &mut self,
+        tally: Tally,
+        start: u64,
+        frame: &[u8],
+        buffer: &[u8],
+    ) -> Call {
+        let given = self.call_with(tally, start, frame, buffer);
+        assert_ne!(given.number, DONE, "{tally:?} is that of the table");
+        given
+    }
+
+    fn call_with(&mut self, tally: Tally, start: u64, frame: &[u8], buffer: &[u8]) -> Call {
         let commands = &mut self.driver.commands;
-        let sent = commands.call(start, frame, buffer);
+        let sent = commands.call(&tally, start, frame, buffer);
         sent.and_then(|()| commands.send())
             .expect("the driver takes the call");
         let given = self.driver.answers.call();
-        let mut reply = buffer.to_vec();
-        let number = reference::call(&mut self.table, start, frame, &mut reply);
+        let (mut left, mut reply) = (tally.into(), buffer.to_vec());
+        let number = reference::call(&mut self.table, &mut left, start, frame, &mut reply);
         let expected = Call {
             number,
+            tally: left.numbers(),
             reply,
             table: self.table.clone(),
         };
         if let Err(difference) = given.same_as(&expected) {
             let length = frame.len();
-            panic!("from {start}, a frame of {length} bytes: {difference}");
+            panic!("with {tally:?}, from {start}, a frame of {length} bytes: {difference}");
+        }
+        given
+    }
+
+    /// Works out the tally of the table, in one that holds these numbers.
+    ///
+    /// # Panics
+    ///
+    /// Where the archive and the reference differ.
+    pub fn work_out(&mut self, held: Tally) -> Tallied {
+        let commands = &mut self.driver.commands;
+        let sent = commands.tally(&held);
+        sent.and_then(|()| commands.send())
+            .expect("the driver takes the tally");
+        let given = self.driver.answers.tallied();
+        let mut tally = held.into();
+        let number = reference::tally(&self.table, &mut tally);
+        let expected = Tallied {
+            number,
+            tally: tally.numbers(),
+        };
+        if let Err(difference) = given.same_as(&expected) {
+            let length = self.table.len();
+            panic!("the tally of a table of {length} bytes: {difference}");
         }
         given
     }
@@ -60,7 +118,12 @@ impl Both {
         &self.table
     }
 
-    /// Turns the table.
+    /// The tally, as the calls have left it.
+    pub fn tally(&self) -> Tally {
+        self.tally
+    }
+
+    /// Turns the table. Its tally stays as it is.
     ///
     /// # Panics
     ///

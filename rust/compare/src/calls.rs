@@ -1,18 +1,20 @@
 //! Calls made at random, and their check.
 //!
 //! Each call is handed to the driver and to the reference, and the outcomes are
-//! compared; so are the listings of the table after each call.
+//! compared; so are the tally and the listing of the table after each call.
 
 use crate::frames::Asker;
 use crate::outcome::{Counted, Counts, Outcome, Return, Returns, Search, Searches};
 use crate::pipeline::{self, Giver};
-use crate::refusals::{Asked, Precedence};
+use crate::refusals::{Precedence, Regardless};
 use crate::starts::start;
+use crate::steps::{left_right, Difference, Step};
 use crate::tables::{blank, damaged, listing_buffer, reply_buffer};
-use driver::{Call, Listed, Same};
+use crate::tallies::{any, tally_of, wrong};
+use driver::{Call, Listed, Same, Tallied, Tally};
 use random::Rng;
 use reference::ledger::{agrees, Ledger, Standing};
-use reference::number::START_OUTSIDE;
+use reference::number::{DONE, TALLY_DIFFERS};
 use reference::{read_request, Kind, ReadRequest, Request, MAX_SLOTS, SLOT_BYTES};
 use std::collections::BTreeMap;
 use std::io::Result;
@@ -39,14 +41,69 @@ impl History {
             _ => 12,
         }
     }
+
+    /// One call in how many has a tally that is not that of its table.
+    fn wrong_in(self) -> usize {
+        match self {
+            History::Apart => 3,
+            _ => 20,
+        }
+    }
+}
+
+/// A table with a tally beside it, which is its own unless the table is damaged.
+struct Card {
+    table: Vec<u8>,
+    tally: Tally,
+}
+
+impl Card {
+    fn blank(slots: usize) -> Card {
+        let table = blank(slots);
+        let tally = tally_of(&table);
+        Card { table, tally }
+    }
+
+    /// A card with a damaged table. Its tally is the one from before the damage,
+    /// or the one that places and lengths now have.
+    fn damaged(&self, rng: &mut Rng) -> Card {
+        let table = damaged(rng, &self.table);
+        let tally = match rng.below(2) {
+            0 => self.tally,
+            _ => tally_of(&table),
+        };
+        Card { table, tally }
+    }
+
+    /// The tally that is lent with the next call; one in `wrong_in` is not that
+    /// of the table.
+    fn lend(&self, rng: &mut Rng, wrong_in: usize) -> Tally {
+        match rng.one_in(wrong_in) {
+            true => wrong(rng, &self.table),
+            false => self.tally,
+        }
+    }
+}
+
+/// What a caller hands over with a call, beside table and reply buffer
+/// (PROFILE 1.1).
+pub struct Handed {
+    /// The tally, as it is lent.
+    pub tally: Tally,
+    /// The start.
+    pub start: u64,
+    /// The frame.
+    pub frame: Vec<u8>,
 }
 
 /// What is expected of a call: its outcome by the reference.
 struct Expected {
     history: History,
-    start: u64,
-    frame: Vec<u8>,
+    handed: Handed,
+    /// Whether the tally is the one that the last call on this table left.
+    carried_on: bool,
     call: Call,
+    tallied: Tallied,
     listed: Listed,
 }
 
@@ -61,8 +118,14 @@ pub struct Seen {
     pub searches: Searches,
     /// Which number went before which, where a call had a reason for both.
     pub precedences: BTreeMap<Precedence, u64>,
-    /// What 105 was given for.
-    pub outside: BTreeMap<Asked, u64>,
+    /// What 105 and 106 were given for.
+    pub regardless: BTreeMap<Regardless, u64>,
+    /// The numbers of the tally that 106 was given for.
+    pub differences: BTreeMap<Difference, u64>,
+    /// What successes did to the tally.
+    pub steps: BTreeMap<Step, u64>,
+    /// The numbers that were given where a tally was worked out.
+    pub worked_out: BTreeMap<u16, u64>,
     /// The first lines of the listings: the header, or a refusal.
     pub listings: BTreeMap<String, u64>,
 }
@@ -71,17 +134,38 @@ impl Seen {
     /// Notes a call that had the outcome expected, if its number is the first of
     /// those that it had a reason for.
     fn note(&mut self, outcome: Outcome, expected: &Expected) -> Same {
-        let (start, frame, call) = (expected.start, &expected.frame, &expected.call);
+        let (handed, call) = (&expected.handed, &expected.call);
         *self.calls.entry(outcome).or_default() += 1;
-        if let Some(search) = Search::of(start, frame, call) {
+        if let Some(search) = Search::of(handed.start, &handed.frame, call) {
             *self.searches.entry(search).or_default() += 1;
         }
-        for precedence in Precedence::all_of(start, frame, call)? {
+        for precedence in Precedence::all_of(handed, call)? {
             *self.precedences.entry(precedence).or_default() += 1;
         }
-        if outcome == Outcome::Refused(START_OUTSIDE) {
-            *self.outside.entry(Asked::of(frame)).or_default() += 1;
+        if let Some(regardless) = Regardless::of(&handed.frame, call.number) {
+            *self.regardless.entry(regardless).or_default() += 1;
         }
+        self.note_tally(expected)
+    }
+
+    /// Notes what became of a call's tally, if it is what must become of it. One
+    /// that is carried on from call to call is never refused (PROFILE 8.5).
+    fn note_tally(&mut self, expected: &Expected) -> Same {
+        let (lent, call) = (&expected.handed.tally, &expected.call);
+        left_right(lent, call)?;
+        if call.number == TALLY_DIFFERS {
+            if expected.carried_on {
+                return Err("it refused the tally that the last call left".into());
+            }
+            for difference in Difference::all_of(lent, &call.table) {
+                *self.differences.entry(difference).or_default() += 1;
+            }
+        }
+        if let Some(step) = Step::of(lent, call) {
+            *self.steps.entry(step).or_default() += 1;
+        }
+        let worked_out = self.worked_out.entry(expected.tallied.number);
+        *worked_out.or_default() += 1;
         Ok(())
     }
 }
@@ -104,7 +188,10 @@ pub fn compare(mut rng: Rng, calls: u64) -> Seen {
             }
             Ok(())
         },
-        |answers, expected| checker.check(&answers.call(), &answers.listed(), &expected),
+        |answers, expected| {
+            let (call, tallied) = (answers.call(), answers.tallied());
+            checker.check(&call, &tallied, &answers.listed(), &expected);
+        },
     );
     checker.seen
 }
@@ -113,58 +200,101 @@ pub fn compare(mut rng: Rng, calls: u64) -> Seen {
 /// damaged copy of the table. Gives how many calls it made.
 fn sequence(giver: &mut Giver<Expected>, rng: &mut Rng, slots: usize) -> Result<u64> {
     let asker = Asker::new(slots);
-    let mut table = blank(slots);
+    let mut card = Card::blank(slots);
     let mut made = 0;
-    giver.commands.table(&table)?;
+    giver.commands.table(&card.table)?;
     for step in 0..SEQUENCE {
         let history = match step {
             0 => History::Begins,
             _ => History::GoesOn,
         };
-        call(giver, rng, &asker, history, &mut table)?;
+        call(giver, rng, &asker, history, &mut card)?;
         made += 1;
         if rng.one_in(10) {
-            let mut other = damaged(rng, &table);
-            giver.commands.table(&other)?;
+            let mut other = card.damaged(rng);
+            giver.commands.table(&other.table)?;
             call(giver, rng, &asker, History::Apart, &mut other)?;
             made += 1;
-            giver.commands.table(&table)?;
+            giver.commands.table(&card.table)?;
         }
     }
     Ok(made)
 }
 
 /// Makes one call on the table lent to the driver and on the reference's, and
-/// lists the table that it left.
+/// has the table that it left tallied and listed.
 fn call(
     giver: &mut Giver<Expected>,
     rng: &mut Rng,
     asker: &Asker,
     history: History,
-    table: &mut [u8],
+    card: &mut Card,
 ) -> Result<()> {
-    let start = start(rng, table.len() / SLOT_BYTES, history.outside_in());
-    let frame = asker.frame(rng);
+    let handed = Handed {
+        tally: card.lend(rng, history.wrong_in()),
+        start: start(rng, card.table.len() / SLOT_BYTES, history.outside_in()),
+        frame: asker.frame(rng),
+    };
+    let carried_on = history != History::Apart && handed.tally == card.tally;
+    let call = call_both(giver, rng, &handed, &mut card.table)?;
+    if call.number == DONE {
+        card.tally = call.tally;
+    }
+    let tallied = work_out_both(giver, rng, &card.table)?;
+    let listed = list_both(giver, rng, &card.table)?;
+    giver.expect(Expected {
+        history,
+        handed,
+        carried_on,
+        call,
+        tallied,
+        listed,
+    })
+}
+
+/// Hands a call to the driver, and gives what the reference makes of it.
+fn call_both(
+    giver: &mut Giver<Expected>,
+    rng: &mut Rng,
+    handed: &Handed,
+    table: &mut [u8],
+) -> Result<Call> {
+    let Handed {
+        tally,
+        start,
+        frame,
+    } = handed;
     let mut reply = reply_buffer(rng);
-    giver.commands.call(start, &frame, &reply)?;
-    let number = reference::call(table, start, &frame, &mut reply);
-    let call = Call {
+    giver.commands.call(tally, *start, frame, &reply)?;
+    let mut tally = (*tally).into();
+    let number = reference::call(table, &mut tally, *start, frame, &mut reply);
+    Ok(Call {
         number,
+        tally: tally.numbers(),
         reply,
         table: table.to_vec(),
-    };
+    })
+}
+
+/// Has the driver work out the tally of its table, in one that holds any numbers,
+/// and gives what the reference makes of it.
+fn work_out_both(giver: &mut Giver<Expected>, rng: &mut Rng, table: &[u8]) -> Result<Tallied> {
+    let held = any(rng);
+    giver.commands.tally(&held)?;
+    let mut tally = held.into();
+    let number = reference::tally(table, &mut tally);
+    let tally = tally.numbers();
+    Ok(Tallied { number, tally })
+}
+
+/// Has the driver list its table, and gives what the reference makes of it.
+fn list_both(giver: &mut Giver<Expected>, rng: &mut Rng, table: &[u8]) -> Result<Listed> {
     let mut out = listing_buffer(rng);
     giver.commands.list(&out)?;
     let listing = reference::listing(table);
     out[..listing.len()].copy_from_slice(&listing);
     let length = u16::try_from(listing.len()).expect("no listing is so long");
-    giver.expect(Expected {
-        history,
-        start,
-        frame,
-        call,
-        listed: Listed { length, out },
-    })
+    Ok(Listed { length, out })
 }
 
 /// Checks one call after another.
@@ -176,12 +306,13 @@ struct Checker {
 }
 
 impl Checker {
-    fn check(&mut self, given: &Call, listed: &Listed, expected: &Expected) {
+    fn check(&mut self, given: &Call, tallied: &Tallied, listed: &Listed, expected: &Expected) {
         let same = given
             .same_as(&expected.call)
+            .and_then(|()| tallied.same_as(&expected.tallied))
             .and_then(|()| listed.same_as(&expected.listed))
             .and_then(|()| {
-                let outcome = Outcome::of(given.number, &expected.frame, &given.reply);
+                let outcome = Outcome::of(given.number, &expected.handed.frame, &given.reply);
                 self.seen.note(outcome, expected)?;
                 let first = first_line(listed);
                 *self.seen.listings.entry(first).or_default() += 1;
@@ -204,7 +335,7 @@ impl Checker {
             History::Begins => self.ledger = Ledger::new(),
             History::GoesOn => {}
         }
-        self.tell(&call.frame, outcome);
+        self.tell(&call.handed.frame, outcome);
         agrees(&self.ledger, table)
     }
 
@@ -244,15 +375,18 @@ fn first_line(listed: &Listed) -> String {
 
 /// A call in words, with as much of its frame as can be looked at.
 fn describe(expected: &Expected) -> String {
-    let frame = &expected.frame;
+    let Handed {
+        tally,
+        start,
+        frame,
+    } = &expected.handed;
     let table = match expected.history {
         History::Apart => "damaged",
         _ => "reached",
     };
     format!(
-        "on a {table} table of {} bytes, from {}, with a frame of {} bytes that begins {:02x?}",
+        "on a {table} table of {} bytes, with {tally:?}, from {start}, with a frame of {} bytes that begins {:02x?}",
         expected.call.table.len(),
-        expected.start,
         frame.len(),
         &frame[..frame.len().min(64)]
     )

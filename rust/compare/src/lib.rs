@@ -2,12 +2,14 @@
 //!
 //! The archive is called by a small C program, the [`driver`]. The tests make
 //! calls at random, give each to the archive and to the reference, and compare
-//! number, reply buffer, table and the table's listing.
+//! number, reply buffer, table, tally, and the table's listing; and likewise the
+//! tally worked out from the table afresh.
 //!
 //! | | |
 //! |---|---|
 //! | [`frames`] | request frames at random, right and wrong ones |
 //! | [`starts`] | starts at random, right and wrong ones |
+//! | [`tallies`] | tallies at random, right and wrong ones |
 //! | [`tables`] | damaged tables, old ones, and buffers for replies and listings |
 //! | [`pipeline`] | many commands on their way at once |
 //! | [`calls`] | many calls, made at random and checked |
@@ -16,6 +18,7 @@
 //! | [`both`] | one call after another, on a table chosen by a test |
 //! | [`pair`] | two cards that are sent the same frames from different starts |
 //! | [`outcome`] | which outcomes occurred, and which must occur |
+//! | [`steps`] | how calls changed the tally, and which of its numbers differed |
 //! | [`refusals`] | which calls gave a number, and what else was wrong with them |
 //!
 //! `COMPARE_SEED` sets another seed and `COMPARE_CALLS` another number of
@@ -33,5 +36,7 @@ pub mod pair;
 pub mod pipeline;
 pub mod refusals;
 pub mod starts;
+pub mod steps;
 pub mod tables;
+pub mod tallies;
 pub mod turning;

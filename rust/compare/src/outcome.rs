@@ -223,7 +223,7 @@ fn counts(kind: u8, status: u8) -> &'static [Counted] {
 /// Every outcome that can occur: each number, and each kind with the statuses
 /// and counts that it can have.
 pub fn that_can_occur() -> Vec<Outcome> {
-    let mut outcomes: Vec<Outcome> = (101..=105).map(Outcome::Refused).collect();
+    let mut outcomes: Vec<Outcome> = (101..=106).map(Outcome::Refused).collect();
     for kind in 0..32 {
         for &status in statuses(kind) {
             outcomes.extend(

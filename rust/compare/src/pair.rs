@@ -2,7 +2,7 @@
 //!
 //! A start decides which slot a setup takes, and so the order of a list, and
 //! which handles are left off one that has no room for all. Nothing else of a
-//! reply depends on it, and no history does.
+//! reply depends on it, and neither tally nor history does.
 
 use crate::frames::{frame, Asker};
 use crate::starts::{inside, outside};
@@ -90,6 +90,7 @@ impl Pair {
         } else {
             assert!(one.reply == other.reply, "{frame:02x?}");
         }
+        assert_eq!(one.tally, other.tally, "{frame:02x?}");
         let [slots, others] = [one, other].map(|call| table::slots(&call.table));
         assert!(sorted(slots) == sorted(others), "{frame:02x?}: the records");
         self.differed.in_slots += u64::from(slots != others);

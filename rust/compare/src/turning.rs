@@ -4,6 +4,7 @@ use crate::frames::Asker;
 use crate::pipeline::{self, Giver};
 use crate::starts::inside;
 use crate::tables::{before_turning, blank, damaged};
+use crate::tallies::tally_of;
 use driver::Turned;
 use random::Rng;
 use reference::{MAX_SLOTS, REPLY_ROOM};
@@ -98,10 +99,12 @@ pub fn compare_turnings(mut rng: Rng, turnings: u64) -> BTreeMap<Turning, u64> {
 fn fill_and_turn(giver: &mut Giver<Expected>, rng: &mut Rng, slots: usize) -> Result<u64> {
     let asker = Asker::new(slots);
     let mut table = blank(slots);
+    let mut tally = tally_of(&table).into();
     let mut made = 0;
     for step in 0..REQUESTS {
-        let start = inside(rng, slots);
-        reference::call(&mut table, start, &asker.frame(rng), &mut [0; REPLY_ROOM]);
+        let (start, frame) = (inside(rng, slots), asker.frame(rng));
+        let reply = &mut [0; REPLY_ROOM];
+        reference::call(&mut table, &mut tally, start, &frame, reply);
         if step % (REQUESTS / TURNINGS) != 0 {
             continue;
         }

@@ -1,10 +1,12 @@
-//! Calls at random: the archive gives the number, the reply buffer and the
-//! table that the reference gives, and every table agrees with its history.
+//! Calls at random: the archive gives the number, the reply buffer, the table and
+//! the tally that the reference gives, every table agrees with its history, and
+//! every tally with its table.
 
 use compare::calls::compare;
 use compare::outcome::{assert_all_occurred, returns_that_can_occur};
 use compare::outcome::{searches_that_can_occur, that_can_occur};
-use compare::refusals::{Asked, Precedence};
+use compare::refusals::{Precedence, Regardless};
+use compare::steps::{Difference, Step};
 use random::{setting, Rng};
 
 /// The calls made unless `COMPARE_CALLS` says how many.
@@ -21,7 +23,12 @@ fn random_calls_agree_with_the_reference_and_with_their_history() {
     assert_all_occurred(&seen.returns, returns_that_can_occur());
     assert_all_occurred(&seen.searches, searches_that_can_occur());
     assert_all_occurred(&seen.precedences, Precedence::that_can_occur());
-    assert_all_occurred(&seen.outside, Asked::that_can_occur());
+    assert_all_occurred(&seen.regardless, Regardless::that_can_occur());
+    assert_all_occurred(&seen.differences, Difference::that_can_occur());
+    assert_all_occurred(&seen.steps, Step::that_can_occur());
+    let worked_out: Vec<u16> = seen.worked_out.keys().copied().collect();
+    println!("tallies worked out: {:?}", seen.worked_out);
+    assert_eq!(worked_out, [0, 102, 103]);
     for (line, count) in &seen.listings {
         println!("{count:>9}  listing: {line}");
     }

@@ -1,6 +1,6 @@
 //! Cases 13 to 17 of the card profile (PROFILE 9.2, 9.3), what else is refused for
 //! the bit of a count, and the fullest card that there can be. All calls have the
-//! start 0.
+//! start 0 and the tally of their table.
 
 use compare::both::Both;
 use compare::frames::{frame, KINDS_OUTSIDE};

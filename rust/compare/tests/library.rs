@@ -1,11 +1,12 @@
-//! The crate `cavernlull` at random: its requests, replies, tables and listings
-//! are those of the reference.
+//! The crate `cavernlull` at random: its requests, replies, tables, tallies and
+//! listings are those of the reference.
 
 use cavernlull::{AssetHash, Card, Handle, Key, Kind, Reply, Request, Right, Status};
-use cavernlull::{CallError, Error, TurnError, Verdict};
+use cavernlull::{CallError, Error, Tally, TallyError, TurnError, Verdict};
 use compare::frames::Asker;
 use compare::starts::{inside, start};
 use compare::tables::{before_turning, blank, damaged};
+use compare::tallies::{tally_of, wrong};
 use random::Rng;
 use reference::{Count, Fields, ReadRequest, HANDLE_BYTES, HASH_BYTES, MAX_SLOTS, REPLY_ROOM};
 use std::collections::BTreeSet;
@@ -117,10 +118,33 @@ fn told(reply: &Reply) -> Option<(u8, Option<bool>)> {
     }
 }
 
-/// A card of the library, and the reference's table.
+/// The numbers of a tally of the library.
+fn numbers(tally: Tally) -> [u16; 5] {
+    [
+        tally.empty,
+        tally.reserved,
+        tally.enabled,
+        tally.disabled,
+        tally.payload,
+    ]
+}
+
+/// A tally of the library with these numbers.
+fn tally([empty, reserved, enabled, disabled, payload]: [u16; 5]) -> Tally {
+    Tally {
+        empty,
+        reserved,
+        enabled,
+        disabled,
+        payload,
+    }
+}
+
+/// A card of the library, and the reference's table and tally.
 struct Pair {
     card: Card,
     table: Vec<u8>,
+    tally: reference::Tally,
     told: BTreeSet<(u8, Option<bool>)>,
 }
 
@@ -138,7 +162,8 @@ impl Pair {
         assert_eq!(request.to_frame().as_ref(), Ok(&sent), "{request:?}");
         verdict.put_into(&mut sent);
         let mut buffer = [0; REPLY_ROOM];
-        let expected = match reference::call(&mut self.table, start, &sent, &mut buffer) {
+        let (table, tally) = (&mut self.table, &mut self.tally);
+        let expected = match reference::call(table, tally, start, &sent, &mut buffer) {
             0 => {
                 let length = 4 + usize::from(u16::from_be_bytes([buffer[2], buffer[3]]));
                 Ok(reply(&buffer[..length]))
@@ -149,6 +174,7 @@ impl Pair {
         let given = self.card.call_from(start as usize, &request, verdict);
         assert_eq!(given, expected, "{request:?}");
         assert!(self.card.table() == self.table, "{request:?}");
+        assert_eq!(numbers(self.card.tally()), self.tally.numbers());
         let listing = self.card.listing().to_string();
         assert_eq!(listing.as_bytes(), reference::listing(&self.table));
         let given = given.ok()?;
@@ -166,6 +192,7 @@ fn typed_requests_have_the_replies_that_the_reference_gives() {
         let mut pair = Pair {
             card: Card::blank(slots),
             table: blank(slots),
+            tally: tally_of(&blank(slots)).into(),
             told: BTreeSet::new(),
         };
         for _ in 0..REQUESTS {
@@ -198,10 +225,12 @@ fn old_tables_are_turned_as_the_reference_turns_them() {
     for slots in 1..=MAX_SLOTS {
         let asker = Asker::new(slots);
         let mut table = blank(slots);
+        let mut tally = tally_of(&table).into();
         for _ in 0..REQUESTS / 4 {
             for _ in 0..4 {
                 let (start, frame) = (inside(&mut rng, slots), asker.frame(&mut rng));
-                reference::call(&mut table, start, &frame, &mut [0; REPLY_ROOM]);
+                let reply = &mut [0; REPLY_ROOM];
+                reference::call(&mut table, &mut tally, start, &frame, reply);
             }
             let mut old = before_turning(&table);
             if rng.one_in(3) {
@@ -218,4 +247,49 @@ fn old_tables_are_turned_as_the_reference_turns_them() {
         }
     }
     assert_eq!(seen, BTreeSet::from([0, 102, 103]));
+}
+
+/// Tables that requests filled, some of them damaged. A card with a tally that is
+/// not its own refuses with 106, and keeps table and tally as they are.
+#[test]
+fn tallies_are_worked_out_and_tested_as_the_reference_does() {
+    let mut rng = Rng::announced("typed tallies");
+    let mut seen = BTreeSet::new();
+    for slots in 1..=MAX_SLOTS {
+        let asker = Asker::new(slots);
+        let mut table = blank(slots);
+        let mut right = tally_of(&table).into();
+        for _ in 0..REQUESTS / 4 {
+            let (start, frame) = (inside(&mut rng, slots), asker.frame(&mut rng));
+            let reply = &mut [0; REPLY_ROOM];
+            reference::call(&mut table, &mut right, start, &frame, reply);
+            let other = match rng.below(3) {
+                0 => damaged(&mut rng, &table),
+                _ => table.clone(),
+            };
+            let given = Tally::of(&other).map(numbers);
+            let expected = reference::Tally::of(&other).map(reference::Tally::numbers);
+            assert_eq!(given.map_err(TallyError::number), expected);
+            seen.insert(expected.err().unwrap_or(0));
+            seen.insert(refused(&mut rng, other));
+        }
+    }
+    assert_eq!(seen, BTreeSet::from([0, 102, 103, 106]));
+}
+
+/// The number for which a call on a card with a wrong tally is refused; it changes
+/// nothing.
+fn refused(rng: &mut Rng, table: Vec<u8>) -> u16 {
+    let wrong = wrong(rng, &table);
+    let mut card = Card::with_tally(table.clone(), tally(wrong));
+    let query = Request::HandleListQuery {
+        limit: 0,
+        hashes: Vec::new(),
+    };
+    let Err(Error::Call(error)) = card.call(&query, Verdict::Held) else {
+        panic!("{wrong:?} is not that of the table");
+    };
+    assert!(card.table() == table);
+    assert_eq!(numbers(card.tally()), wrong);
+    error.number()
 }

@@ -6,6 +6,7 @@ use compare::both::Both;
 use compare::frames::frame;
 use compare::pair::{compare_cards, Differed};
 use compare::tables::blank;
+use compare::tallies::tally_of;
 use driver::Call;
 use random::{setting, Rng};
 use reference::{MAX_SLOTS, REPLY_ROOM, SLOT_BYTES};
@@ -225,12 +226,14 @@ fn two_cards_of_the_reference_differ_in_their_slots_alone() {
     let mut rng = Rng::announced("two cards of the reference");
     let of_size = |slots| {
         let mut tables = [blank(slots), blank(slots)];
+        let mut tallies = [tally_of(&tables[0]).into(); 2];
         let call = |card: usize, start, frame: &[u8], buffer: &[u8]| {
-            let table: &mut [u8] = &mut tables[card];
+            let (table, tally) = (&mut tables[card][..], &mut tallies[card]);
             let mut reply = buffer.to_vec();
-            let number = reference::call(table, start, frame, &mut reply);
+            let number = reference::call(table, tally, start, frame, &mut reply);
             Call {
                 number,
+                tally: tally.numbers(),
                 reply,
                 table: table.to_vec(),
             }

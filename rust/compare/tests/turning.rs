@@ -108,15 +108,19 @@ fn tables_that_were_not_well_formed_before_the_bit_are_103() {
     }
 }
 
-/// What was turned is a table that the call takes: the right under 1 has a kept
-/// count of 7, and the one under 2 none.
+/// What was turned is a table that the call takes, with the tally from before: the
+/// right under 1 has a kept count of 7, and the one under 2 none.
 #[test]
 fn a_turned_table_is_called() {
     let query = |handle: u8| [&[0x29, 0x80, 0, 10][..], &[handle; 10]].concat();
     let buffer = [0; reference::REPLY_ROOM];
     let mut both = Both::on([slot(2, 1, 7), slot(2, 2, 0)].concat());
+    let tally = both.tally();
     assert_eq!(both.call(0, &query(1), &buffer).number, 103);
+    assert_eq!(both.work_out(tally).number, 103);
     assert_eq!(both.turn().number, 0);
+    let turned = both.work_out([0; 5]);
+    assert_eq!((turned.number, turned.tally), (0, tally));
     let told = both.call(0, &query(1), &buffer).reply;
     assert_eq!(told[..6], [0x29, 0x80, 0, 7, 0, 7]);
     let told = both.call(0, &query(2), &buffer).reply;

@@ -45,6 +45,13 @@ pub struct Fields<'a> {
     pub payload: &'a [u8],
 }
 
+/// The five numbers of a tally, in the order in which the header and the card
+/// profile have them (PROFILE 2.8).
+pub type Tally = [u16; 5];
+
+/// What the numbers of a tally count.
+pub const TALLY_WORDS: [&str; 5] = ["empty", "reserved", "enabled", "disabled", "payload"];
+
 /// A running driver.
 pub struct Driver {
     /// Where commands go in.
@@ -112,17 +119,29 @@ impl Commands {
         self.string(table)
     }
 
-    /// Has `cavernlull_call` called with this start; the answer is a
-    /// [`Call`].
+    /// Has `cavernlull_call` called with this tally and this start; the answer
+    /// is a [`Call`].
     ///
     /// # Errors
     ///
     /// Where the driver has ended.
-    pub fn call(&mut self, start: u64, frame: &[u8], reply: &[u8]) -> Result<()> {
+    pub fn call(&mut self, tally: &Tally, start: u64, frame: &[u8], reply: &[u8]) -> Result<()> {
         self.0.write_all(b"c")?;
         self.0.write_all(&start.to_le_bytes())?;
+        self.numbers(tally)?;
         self.string(frame)?;
         self.string(reply)
+    }
+
+    /// Has `cavernlull_tally` called on the table, with a tally that holds these
+    /// numbers; the answer is a [`Tallied`].
+    ///
+    /// # Errors
+    ///
+    /// Where the driver has ended.
+    pub fn tally(&mut self, tally: &Tally) -> Result<()> {
+        self.0.write_all(b"a")?;
+        self.numbers(tally)
     }
 
     /// Has `cavernlull_write_request` called; the answer is a [`Written`].
@@ -153,7 +172,7 @@ impl Commands {
         self.0.write_all(b"r")?;
         self.string(frame)?;
         self.string(key)?;
-        self.string(&numbers.map(u16::to_le_bytes).concat())
+        self.numbers(numbers)
     }
 
     /// Has `cavernlull_list` called on the table; the answer is a [`Listed`].
@@ -188,6 +207,11 @@ impl Commands {
         self.0.write_all(&number.to_le_bytes())
     }
 
+    /// Numbers of 16 bits as the driver lends them, which are a string to it.
+    fn numbers<const N: usize>(&mut self, numbers: &[u16; N]) -> Result<()> {
+        self.string(&numbers.map(u16::to_le_bytes).concat())
+    }
+
     fn string(&mut self, bytes: &[u8]) -> Result<()> {
         self.number(u32::try_from(bytes.len()).expect("no string is so long"))?;
         self.0.write_all(bytes)
@@ -199,6 +223,8 @@ impl Commands {
 pub struct Call {
     /// The number.
     pub number: u16,
+    /// The tally.
+    pub tally: Tally,
     /// The whole reply buffer.
     pub reply: Vec<u8>,
     /// The whole table.
@@ -214,7 +240,29 @@ impl Call {
     pub fn same_as(&self, expected: &Call) -> Same {
         same_number(self.number, expected.number)?;
         same_bytes("the reply buffer", &self.reply, &expected.reply)?;
-        same_bytes("the table", &self.table, &expected.table)
+        same_bytes("the table", &self.table, &expected.table)?;
+        same_tally(&self.tally, &expected.tally)
+    }
+}
+
+/// What a call of `cavernlull_tally` gave, and what it left.
+#[derive(Debug, PartialEq, Eq)]
+pub struct Tallied {
+    /// The number.
+    pub number: u16,
+    /// The tally.
+    pub tally: Tally,
+}
+
+impl Tallied {
+    /// Whether this is exactly the tally expected.
+    ///
+    /// # Errors
+    ///
+    /// A sentence that names the first thing that differs.
+    pub fn same_as(&self, expected: &Tallied) -> Same {
+        same_number(self.number, expected.number)?;
+        same_tally(&self.tally, &expected.tally)
     }
 }
 
@@ -325,6 +373,19 @@ fn same_number(given: u16, wanted: u16) -> Same {
     Ok(())
 }
 
+/// Whether each number of a tally is as expected, and if not, which is the first
+/// that is another.
+fn same_tally(given: &Tally, expected: &Tally) -> Same {
+    for (word, (given, wanted)) in TALLY_WORDS.iter().zip(given.iter().zip(expected)) {
+        if given != wanted {
+            return Err(format!(
+                "the tally's {word} is {given} where {wanted} was expected"
+            ));
+        }
+    }
+    Ok(())
+}
+
 /// Whether lent memory is as expected, and if not, where.
 fn same_bytes(what: &str, given: &[u8], expected: &[u8]) -> Same {
     if given == expected {
@@ -355,8 +416,21 @@ impl Answers {
     pub fn call(&mut self) -> Call {
         Call {
             number: self.number(),
+            tally: self.numbers(),
             reply: self.string(),
             table: self.string(),
+        }
+    }
+
+    /// The next answer to a tally worked out.
+    ///
+    /// # Panics
+    ///
+    /// Where the driver ends before it has answered.
+    pub fn tallied(&mut self) -> Tallied {
+        Tallied {
+            number: self.number(),
+            tally: self.numbers(),
         }
     }
 
@@ -378,18 +452,10 @@ impl Answers {
     ///
     /// Where the driver ends before it has answered.
     pub fn read(&mut self) -> Read {
-        let number = self.number();
-        let key = self.string().try_into().expect("a key");
-        let bytes = self.string();
-        let mut numbers = Numbers::default();
-        assert_eq!(bytes.len(), 2 * numbers.len(), "eleven numbers");
-        for (number, pair) in numbers.iter_mut().zip(bytes.chunks_exact(2)) {
-            *number = u16::from_le_bytes([pair[0], pair[1]]);
-        }
         Read {
-            number,
-            key,
-            numbers,
+            number: self.number(),
+            key: self.string().try_into().expect("a key"),
+            numbers: self.numbers(),
         }
     }
 
@@ -420,6 +486,18 @@ impl Answers {
     fn number(&mut self) -> u16 {
         let number = self.word();
         u16::try_from(number).unwrap_or_else(|_| panic!("the driver answered {number}"))
+    }
+
+    /// As many numbers of 16 bits as are asked for, which are a string to the
+    /// driver.
+    fn numbers<const N: usize>(&mut self) -> [u16; N] {
+        let bytes = self.string();
+        assert_eq!(bytes.len(), 2 * N, "{N} numbers");
+        let mut numbers = [0; N];
+        for (number, pair) in numbers.iter_mut().zip(bytes.chunks_exact(2)) {
+            *number = u16::from_le_bytes([pair[0], pair[1]]);
+        }
+        numbers
     }
 
     fn string(&mut self) -> Vec<u8> {

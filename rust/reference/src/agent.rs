@@ -1,12 +1,12 @@
 //! The card agent.
 
 use crate::frame::kind_bits;
-use crate::number::{DONE, NO_FRAME, REPLY_BUFFER_SHORT};
+use crate::number::{DONE, NO_FRAME, REPLY_BUFFER_SHORT, TALLY_DIFFERS};
 use crate::reply::{handles_body, information_body, reply_frame, Success};
 use crate::request::content_of;
 use crate::slot::{self, Place, SlotBytes};
 use crate::table;
-use crate::{read_request, Fields, Handle, Kind, ReadRequest, Request, Status};
+use crate::{read_request, Fields, Handle, Kind, ReadRequest, Request, Status, Tally};
 use crate::{HANDLE_BYTES, MAX_PAYLOAD};
 
 /// The bytes that a reply buffer must have: as many as the longest reply, which
@@ -18,15 +18,22 @@ type Outcome = Result<Success, Status>;
 
 /// One call of the card agent.
 ///
-/// It tests for 101, 102, 105, 103 and 104 in this order (PROFILE 4.1), and a
-/// call that gives one of them changes neither table nor reply buffer. Any other
-/// call gives 0 and writes a reply at offset 0 of the buffer, whose remaining
-/// bytes keep what they held. A reply with a status other than 0 leaves the
-/// table as it was (PROFILE 4.2).
+/// It tests for 101, 102, 105, 103, 106 and 104 in this order (PROFILE 4.1), and
+/// a call that gives one of them changes neither table nor tally nor reply
+/// buffer. Any other call gives 0 and writes a reply at offset 0 of the buffer,
+/// whose remaining bytes keep what they held. A reply with a status other than 0
+/// leaves the table as it was, and so its tally (PROFILE 4.2).
 ///
-/// `start` is the number of the slot from which a setup looks for an empty one;
-/// no other kind heeds it.
-pub fn call(table: &mut [u8], start: u64, frame: &[u8], reply: &mut [u8]) -> u16 {
+/// `tally` is the tally of the table, and is made that of the table afterwards
+/// (PROFILE 2.8). `start` is the number of the slot from which a setup looks for
+/// an empty one; no other kind heeds it.
+pub fn call(
+    table: &mut [u8],
+    tally: &mut Tally,
+    start: u64,
+    frame: &[u8],
+    reply: &mut [u8],
+) -> u16 {
     if reply.len() < REPLY_ROOM {
         return REPLY_BUFFER_SHORT;
     }
@@ -34,9 +41,13 @@ pub fn call(table: &mut [u8], start: u64, frame: &[u8], reply: &mut [u8]) -> u16
         Ok(start) => start,
         Err(number) => return number,
     };
+    if *tally != Tally::of_slots(table::slots(table)) {
+        return TALLY_DIFFERS;
+    }
     let Some(answer) = answer(table::slots_mut(table), start, frame) else {
         return NO_FRAME;
     };
+    *tally = Tally::of_slots(table::slots(table));
     reply[..answer.len()].copy_from_slice(&answer);
     DONE
 }

@@ -9,7 +9,7 @@
 //!
 //! | item | what it is | PROFILE |
 //! |---|---|---|
-//! | [`call`] | the card agent: a lent table, a start, a frame, a lent reply buffer | 1.1, 4, 5 |
+//! | [`call`] | the card agent: a lent table and its tally, a start, a frame, a lent reply buffer | 1.1, 4, 5 |
 //! | [`write_request`] | the device's request writer | 6.2 |
 //! | [`read_request`] | the request reader, which the card uses too | 6.1 |
 //! | [`read_reply`] | the device's reply reader | 6.3 |
@@ -17,6 +17,7 @@
 //! | [`ledger`] | the history of rights, told by requests and statuses | 8 |
 //! | [`table`], [`slot`] | well-formedness, and one accessor for each field | 2 |
 //! | [`turn`] | the turning of tables from before a count had its bit | 2.7 |
+//! | [`Tally`], [`tally()`] | how a table is filled, worked out from its slots | 2.8 |
 //!
 //! # How it is built
 //!
@@ -25,6 +26,7 @@
 //! agent (`agent`) look at the table. Every test of the agent precedes every
 //! change it makes: the functions for the single kinds answer
 //! `Result<Vec<u8>, Status>`, and the table is written after their last `?`.
+//! None of them knows of the tally: it is worked out before them and after them.
 //!
 //! Numbers of two bytes are big-endian, and the first field of a byte is in
 //! its highest bits.
@@ -35,16 +37,18 @@
 //! with the start 0:
 //!
 //! ```
-//! use reference::{call, listing, write_request, WriterFields, REPLY_ROOM, SLOT_BYTES};
+//! use reference::{call, listing, write_request, Tally, WriterFields, REPLY_ROOM, SLOT_BYTES};
 //!
 //! let fields = WriterFields { handle: [1; 10], length: 5, ..WriterFields::default() };
 //! let mut frame = [0; 16];
 //! assert_eq!(write_request(1, &fields, &mut frame), 0);
 //!
 //! let mut table = vec![0; SLOT_BYTES];
+//! let mut tally = Tally::from([1, 0, 0, 0, 0]);
 //! let mut reply = vec![0; REPLY_ROOM];
-//! assert_eq!(call(&mut table, 0, &frame, &mut reply), 0);
+//! assert_eq!(call(&mut table, &mut tally, 0, &frame, &mut reply), 0);
 //! assert_eq!(reply[..4], [0x21, 0, 0, 0]);
+//! assert_eq!(tally.numbers(), [0, 1, 0, 0, 0]);
 //! assert_eq!(
 //!     listing(&table),
 //!     b"slot place hashes count length\n0 reserved 0 0 5\n"
@@ -68,6 +72,7 @@ mod request;
 pub mod slot;
 mod status;
 pub mod table;
+mod tally;
 mod turning;
 
 pub use agent::{call, REPLY_ROOM};
@@ -79,6 +84,7 @@ pub use request::{read_request, write_request, Fields, ReadRequest, Request, Wri
 pub use slot::{Place, SLOT_BYTES};
 pub use status::Status;
 pub use table::{well_formed, MAX_SLOTS};
+pub use tally::{tally, Tally};
 pub use turning::turn;
 
 /// A handle: any ten bytes, zeros included (PROFILE 2.6).

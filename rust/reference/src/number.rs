@@ -1,6 +1,7 @@
 //! The numbers that functions give back.
 
-/// The call wrote a reply, the writer wrote a request, or the table was turned.
+/// The call wrote a reply, the writer wrote a request, the table was turned, or
+/// its tally was worked out.
 pub const DONE: u16 = 0;
 
 /// The reply buffer has fewer than 4,279 bytes (PROFILE 4.1).
@@ -18,6 +19,9 @@ pub const NO_FRAME: u16 = 104;
 
 /// The start is not below the number of slots (PROFILE 4.1).
 pub const START_OUTSIDE: u16 = 105;
+
+/// The tally given is not that of the table (PROFILE 4.1).
+pub const TALLY_DIFFERS: u16 = 106;
 
 /// The writer's buffer is shorter than the frame (PROFILE 6.2).
 pub const WRITER_BUFFER_SHORT: u16 = 201;

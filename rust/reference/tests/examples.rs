@@ -1,5 +1,5 @@
 //! The worked examples of the card profile, cases 1 to 17 (PROFILE 9), as one
-//! table. All are run with the start 0.
+//! table. All are run with the start 0 and the tally of their table.
 
 mod common;
 

@@ -8,7 +8,7 @@ use random::Rng;
 use reference::ledger::{agrees, Ledger, Right, Standing};
 use reference::ReadRequest::{NoFrame, Refused, Request};
 use reference::{read_reply, read_request, well_formed, write_request};
-use reference::{Count, Fields, Kind, Reply, HASH_BYTES, MAX_SLOTS, REPLY_ROOM};
+use reference::{Count, Fields, Kind, Reply, Tally, HASH_BYTES, MAX_SLOTS, REPLY_ROOM};
 use std::collections::BTreeSet;
 
 /// A table with its history.
@@ -218,8 +218,9 @@ fn frames_that_read_as_requests_are_written_to_the_same_bytes() {
 }
 
 /// The number of a call on a table of up to two slots that is blank, or has one
-/// byte of an empty slot set, or has random bytes.
-fn expected_number(room: usize, table: &[u8], start: u64, frame: &[u8]) -> u16 {
+/// byte of an empty slot set, or has random bytes. `right` says whether the tally
+/// is that of a blank table.
+fn expected_number(room: usize, table: &[u8], right: bool, start: u64, frame: &[u8]) -> u16 {
     if room < REPLY_ROOM {
         101
     } else if table.len() != 4288 && table.len() != 8576 {
@@ -228,6 +229,8 @@ fn expected_number(room: usize, table: &[u8], start: u64, frame: &[u8]) -> u16 {
         105
     } else if table.iter().any(|&byte| byte != 0) {
         103
+    } else if !right {
+        106
     } else if read_request(frame) == NoFrame {
         104
     } else {
@@ -239,6 +242,7 @@ fn expected_number(room: usize, table: &[u8], start: u64, frame: &[u8]) -> u16 {
 fn refused_calls_change_nothing() {
     let mut rng = Rng::announced("refused calls");
     let asker = Asker::new(3);
+    let mut seen = BTreeSet::new();
     for _ in 0..2_000 {
         let length = rng.pick(&[0, 1, 4287, 4288, 4289, 8576]);
         let mut table = match rng.below(3) {
@@ -255,16 +259,24 @@ fn refused_calls_change_nothing() {
             frame.push(0);
         }
 
-        let expected = expected_number(room, &table, start, &frame);
-        let before = table.clone();
+        let right = Tally::from([(length / 4288) as u16, 0, 0, 0, 0]);
+        let lent = match rng.below(4) {
+            0 => Tally::from([0; 5].map(|_| rng.below(3) as u16)),
+            _ => right,
+        };
+
+        let expected = expected_number(room, &table, lent == right, start, &frame);
+        let (before, mut tally) = (table.clone(), lent);
         let mut reply = vec![FILLER; room];
-        let number = reference::call(&mut table, start, &frame, &mut reply);
+        let number = reference::call(&mut table, &mut tally, start, &frame, &mut reply);
         assert_eq!(number, expected);
+        seen.insert(number);
         if number != 0 {
-            assert!(table == before);
+            assert!(table == before && tally == lent);
             assert!(reply.iter().all(|&byte| byte == FILLER));
         }
     }
+    assert_eq!(seen, BTreeSet::from([0, 101, 102, 103, 104, 105, 106]));
 }
 
 #[test]

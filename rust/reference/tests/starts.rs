@@ -4,17 +4,14 @@
 mod common;
 
 use common::{
-    about, blank, call, call_for, call_from, frame_bytes, lending, mixed_table, request_bytes,
-    returning, right, setup, Given, OwnFields, FILLER,
+    blank, call, call_for, call_from, failures, frame_bytes, mixed_table, right, setup, successes,
+    tally_of, Given, OwnFields, FILLER, NEW,
 };
 use random::Rng;
-use reference::{read_reply, Count, MAX_SLOTS, REPLY_ROOM, SLOT_BYTES};
+use reference::{read_reply, MAX_SLOTS, REPLY_ROOM, SLOT_BYTES};
 
 /// The first byte of a record in each place.
 const PLACES: [u8; 3] = [0x40, 0x80, 0xC0];
-
-/// The handle of the setups, which no record has.
-const NEW: u8 = 0xEE;
 
 /// Starts that no table has a slot for. The last is the least whose product with
 /// the bytes of a slot has more than 64 bits.
@@ -161,38 +158,6 @@ fn a_full_table_is_7_whatever_the_start() {
     }
 }
 
-/// A request of each kind that succeeds on the mixed table.
-fn successes() -> Vec<Vec<u8>> {
-    let rows = [
-        (1, setup(NEW, 7)),
-        (2, right(2, 1, 7)),
-        (3, lending(1, NEW)),
-        (4, lending(4, NEW)),
-        (5, returning(5, Count::Kept(3))),
-        (6, about(5)),
-        (7, about(2)),
-        (8, OwnFields::default()),
-        (9, about(1)),
-    ];
-    rows.map(|(kind, fields)| frame_bytes(kind, &fields)).into()
-}
-
-/// Frames that the agent answers with a refusal, and strings that are no frame.
-fn failures() -> Vec<Vec<u8>> {
-    let setups = [setup(NEW, 0), setup(1, 7), setup(NEW, 4097)];
-    let mut frames: Vec<Vec<u8>> = setups.map(|fields| frame_bytes(1, &fields)).into();
-    frames.push(request_bytes(1, 0, &[NEW; 12]));
-    frames.push(request_bytes(1, 0x81, &[NEW; 12]));
-    frames.push(frame_bytes(6, &about(NEW)));
-    frames.push(frame_bytes(9, &about(5)));
-    let unknown = (0..32).filter(|kind| !(1..=9).contains(kind));
-    frames.extend(unknown.map(|kind| request_bytes(kind, 0x80, &[])));
-    let setup = frame_bytes(1, &setup(NEW, 7));
-    frames.extend([0, 1, 3, 4, 15].map(|length| setup[..length].to_vec()));
-    frames.push([&setup[..], &[0]].concat());
-    frames
-}
-
 #[test]
 fn a_start_that_is_no_slot_is_105_for_every_frame() {
     let refused = Given {
@@ -235,7 +200,8 @@ fn the_start_is_tested_after_the_lengths_and_before_the_slots() {
     let lengths = [0, 1, SLOT_BYTES - 1, SLOT_BYTES + 1, 16 * SLOT_BYTES];
     for start in [0, 1, 2, 16].into_iter().chain(FAR) {
         let mut short = [FILLER; REPLY_ROOM - 1];
-        let number = reference::call(&mut blank(2), start, &frame, &mut short);
+        let (mut table, mut tally) = (blank(2), tally_of(&blank(2)));
+        let number = reference::call(&mut table, &mut tally, start, &frame, &mut short);
         assert_eq!((number, short), (101, [FILLER; REPLY_ROOM - 1]));
         for length in lengths {
             let mut table = vec![0xFF; length];

@@ -3,7 +3,7 @@
 
 mod common;
 
-use common::{about, blank, call, call_for, mixed_table, setup, FILLER};
+use common::{about, blank, call, call_for, mixed_table, setup, tally_of, FILLER};
 use reference::slot::{self, Place};
 use reference::{listing, table, well_formed, Count};
 use reference::{HASH_BYTES, MAX_SLOTS, REPLY_ROOM, SLOT_BYTES};
@@ -205,21 +205,26 @@ fn numbers_are_tested_in_order() {
     let mut ill_formed = blank(1);
     ill_formed[191] = 1;
     let part = ill_formed[..SLOT_BYTES - 1].to_vec();
-    let rows: [(u16, &[u8], u64, usize); 5] = [
+    let rows: [(u16, &[u8], u64, usize); 6] = [
         (101, &part, 1, REPLY_ROOM - 1),
         (102, &part, 1, REPLY_ROOM),
         (105, &ill_formed, 1, REPLY_ROOM),
         (103, &ill_formed, 0, REPLY_ROOM),
+        (106, &blank(1), 0, REPLY_ROOM),
         (104, &blank(1), 0, REPLY_ROOM),
     ];
     for (number, before, start, room) in rows {
-        let mut table = before.to_vec();
+        let numbers = match number {
+            104 => [1, 0, 0, 0, 0],
+            _ => [1, 0, 0, 0, 1],
+        };
+        let (mut table, mut tally) = (before.to_vec(), numbers.into());
         let mut reply = vec![FILLER; room];
-        assert_eq!(
-            reference::call(&mut table, start, &[0x21, 0x80, 0], &mut reply),
-            number
-        );
+        let frame = [0x21, 0x80, 0];
+        let given = reference::call(&mut table, &mut tally, start, &frame, &mut reply);
+        assert_eq!(given, number);
         assert!(table == before);
+        assert_eq!(tally.numbers(), numbers);
         assert_eq!(reply, vec![FILLER; room]);
     }
 }
@@ -229,13 +234,13 @@ fn a_buffer_of_4279_bytes_takes_the_longest_reply() {
     let mut table = mixed_table();
     call_for(0, &mut table, 5, &about(5));
     let frame = [&[0x23, 0x80, 0, 20][..], &[5; 10], &[6; 10]].concat();
+    let mut tally = tally_of(&table);
     let mut reply = vec![FILLER; 4279];
-    assert_eq!(
-        reference::call(&mut table.clone(), 0, &frame, &mut reply[1..]),
-        101
-    );
+    let mut call_into =
+        |buffer: &mut [u8]| reference::call(&mut table, &mut tally, 0, &frame, buffer);
+    assert_eq!(call_into(&mut reply[1..]), 101);
     assert_eq!(reply, vec![FILLER; 4279]);
-    assert_eq!(reference::call(&mut table, 0, &frame, &mut reply), 0);
+    assert_eq!(call_into(&mut reply), 0);
     assert_eq!(reply[..4], [0x23, 0, 0x10, 0xB3]);
     assert_eq!(4 + 0x10B3, 4279);
     assert_eq!(reply[4278], 0xFF);

@@ -1,7 +1,7 @@
 //! Tables to be listed: made by calls of the agent, by hand, and at random.
 
 use random::Rng;
-use reference::{call, write_request, Count, Place, WriterFields};
+use reference::{call, write_request, Count, Place, Tally, WriterFields};
 use reference::{HASH_BYTES, REPLY_ROOM, SLOT_BYTES};
 
 /// The largest table, of 64,320 bytes.
@@ -63,7 +63,9 @@ pub fn ask(table: &mut [u8], kind: u8, fields: &WriterFields<'_>) -> u8 {
     assert_eq!(write_request(kind, fields, &mut frame), 0);
     let body = usize::from(u16::from_be_bytes([frame[2], frame[3]]));
     let mut reply = vec![0; REPLY_ROOM];
-    assert_eq!(call(table, 0, &frame[..4 + body], &mut reply), 0);
+    let mut tally = Tally::of(table).expect("a table that the agent takes");
+    let number = call(table, &mut tally, 0, &frame[..4 + body], &mut reply);
+    assert_eq!(number, 0);
     reply[1] % 128
 }
 

@@ -3,7 +3,8 @@
 #![allow(dead_code)] // no test file uses all of it
 
 use random::Rng;
-use reference::{Count, Fields, Handle, Key, WriterFields, HASH_BYTES, REPLY_ROOM, SLOT_BYTES};
+use reference::{Count, Fields, Handle, Key, Tally, WriterFields};
+use reference::{HASH_BYTES, REPLY_ROOM, SLOT_BYTES};
 
 /// What reply buffers hold before a call.
 pub const FILLER: u8 = 0xA5;
@@ -209,16 +210,41 @@ pub struct Given {
     pub reply: Vec<u8>,
 }
 
+/// The tally of a table's whole slots, counted by their bytes without the
+/// library. A table that is refused has one too here, whose sum may have lost
+/// its high bits.
+pub fn tally_of(table: &[u8]) -> Tally {
+    let mut numbers = [0u16; 5];
+    for slot in table.chunks_exact(SLOT_BYTES) {
+        let place = usize::from(slot[0] >> 6);
+        numbers[place] += 1;
+        if place >= 2 {
+            let length = u16::from_be_bytes([slot[29], slot[30]]);
+            numbers[4] = numbers[4].wrapping_add(length);
+        }
+    }
+    numbers.into()
+}
+
 /// Calls the agent with the start 0.
 pub fn call(table: &mut [u8], frame: &[u8]) -> Given {
     call_from(0, table, frame)
 }
 
+/// Calls the agent with the tally of the table, and asserts that it is that of
+/// the table afterwards too.
+pub fn call_from(start: u64, table: &mut [u8], frame: &[u8]) -> Given {
+    let mut tally = tally_of(table);
+    let given = call_with(&mut tally, start, table, frame);
+    assert_eq!(tally, tally_of(table), "{frame:02x?}");
+    given
+}
+
 /// Calls the agent with a buffer of `FILLER`, and asserts that nothing but the
 /// reply was written to it.
-pub fn call_from(start: u64, table: &mut [u8], frame: &[u8]) -> Given {
+pub fn call_with(tally: &mut Tally, start: u64, table: &mut [u8], frame: &[u8]) -> Given {
     let mut buffer = vec![FILLER; REPLY_ROOM + 3];
-    let number = reference::call(table, start, frame, &mut buffer);
+    let number = reference::call(table, tally, start, frame, &mut buffer);
     let length = match number {
         0 => 4 + usize::from(u16::from_be_bytes([buffer[2], buffer[3]])),
         _ => 0,
@@ -253,6 +279,41 @@ pub fn mixed_table() -> Vec<u8> {
     call_for(0, &mut table, 4, &lending(3, 5));
     call_for(0, &mut table, 7, &about(0));
     table
+}
+
+/// The handle of new records, which none of the mixed table has.
+pub const NEW: u8 = 0xEE;
+
+/// A request of each kind that succeeds on the mixed table.
+pub fn successes() -> Vec<Vec<u8>> {
+    let rows = [
+        (1, setup(NEW, 7)),
+        (2, right(2, 1, 7)),
+        (3, lending(1, NEW)),
+        (4, lending(4, NEW)),
+        (5, returning(5, Count::Kept(3))),
+        (6, about(5)),
+        (7, about(2)),
+        (8, OwnFields::default()),
+        (9, about(1)),
+    ];
+    rows.map(|(kind, fields)| frame_bytes(kind, &fields)).into()
+}
+
+/// Frames that the agent answers with a refusal, and strings that are no frame.
+pub fn failures() -> Vec<Vec<u8>> {
+    let setups = [setup(NEW, 0), setup(1, 7), setup(NEW, 4097)];
+    let mut frames: Vec<Vec<u8>> = setups.map(|fields| frame_bytes(1, &fields)).into();
+    frames.push(request_bytes(1, 0, &[NEW; 12]));
+    frames.push(request_bytes(1, 0x81, &[NEW; 12]));
+    frames.push(frame_bytes(6, &about(NEW)));
+    frames.push(frame_bytes(9, &about(5)));
+    let unknown = (0..32).filter(|kind| !(1..=9).contains(kind));
+    frames.extend(unknown.map(|kind| request_bytes(kind, 0x80, &[])));
+    let setup = frame_bytes(1, &setup(NEW, 7));
+    frames.extend([0, 1, 3, 4, 15].map(|length| setup[..length].to_vec()));
+    frames.push([&setup[..], &[0]].concat());
+    frames
 }
 
 /// The fields of a request that has only a handle, ten bytes `handle`.
