@@ -1,7 +1,8 @@
-//! A card: a table of slots, and the agent that answers requests about it.
+//! A card: a table of slots with its tally, and the agent that answers requests
+//! about it.
 
 use crate::archive;
-use crate::{CallError, Error, Listing, Reply, Request, TurnError, Verdict};
+use crate::{CallError, Error, Listing, Reply, Request, Tally, TallyError, TurnError, Verdict};
 use crate::{REPLY_ROOM, SLOT_BYTES};
 use std::fmt;
 
@@ -11,6 +12,11 @@ use std::fmt;
 /// A table is 1 to 15 slots of [`SLOT_BYTES`] bytes. A card may be made over any
 /// bytes: the agent looks at them at each call, and answers no request where
 /// the bytes are not a well-formed table.
+///
+/// Beside its table a card has the table's [`tally`](Card::tally), which says how
+/// the card is filled. A card works it out when it is made, and each call brings
+/// it up to date. One who stores the tally with the table
+/// [hands it in](Card::with_tally) instead.
 ///
 /// ```
 /// use cavernlull::{CallError, Card, Error, Handle, Request, Verdict, SLOT_BYTES};
@@ -29,31 +35,95 @@ use std::fmt;
 #[derive(Clone)]
 pub struct Card<T = Vec<u8>> {
     table: T,
+    /// The table's tally. It is all zeros where the bytes are no table, and may
+    /// be any numbers where it was handed in.
+    tally: Tally,
 }
 
 impl Card {
     /// A card whose slots are all empty. Unless there are 1 to 15, every call
     /// is [`CallError::TableLength`].
     pub fn blank(slots: usize) -> Card {
-        Card::from(vec![0; slots * SLOT_BYTES])
+        Card::with_tally(vec![0; slots * SLOT_BYTES], Tally::blank(slots))
     }
 }
 
 impl From<Vec<u8>> for Card {
-    /// A card over these bytes as its table.
+    /// A card over these bytes as its table. Works out their tally.
     fn from(table: Vec<u8>) -> Card {
-        Card { table }
+        let tally = tally_or_zeros(&table);
+        Card::with_tally(table, tally)
     }
 }
 
 impl<'table> Card<&'table mut [u8]> {
-    /// A card over a table that is lent.
+    /// A card over a table that is lent. Works out its tally.
     pub fn over(table: &'table mut [u8]) -> Card<&'table mut [u8]> {
-        Card { table }
+        let tally = tally_or_zeros(table);
+        Card::with_tally(table, tally)
     }
 }
 
+/// The tally of a table, or all zeros where the bytes are none: the call refuses
+/// such bytes before it looks at the tally.
+fn tally_or_zeros(table: &[u8]) -> Tally {
+    Tally::of(table).unwrap_or_default()
+}
+
 impl<T: AsRef<[u8]> + AsMut<[u8]>> Card<T> {
+    /// A card over a table, owned or lent, whose tally was kept beside it.
+    /// Neither is looked at: this is for one who stores a card and takes it up
+    /// again, and need not have its tally worked out each time.
+    ///
+    /// If it is not the table's tally, no call is answered, and none changes
+    /// anything: each is [`CallError::TallyDiffers`], unless it is refused for
+    /// its buffer, its start or its table first. That lasts until
+    /// [`retally`](Card::retally) works the tally out.
+    ///
+    /// ```
+    /// use cavernlull::{CallError, Card, Error, Handle, Request, Tally, Verdict};
+    ///
+    /// let setup = |n| Request::InstallationSetup { handle: Handle([n; 10]), room: 300 };
+    /// let mut card = Card::blank(2);
+    /// card.call(&setup(1), Verdict::Held)?;
+    /// let (table, tally) = card.into_parts();
+    ///
+    /// // The card is taken up again: first with its tally, then with a wrong one.
+    /// let mut card = Card::with_tally(table.clone(), tally);
+    /// card.call(&setup(2), Verdict::Held)?;
+    /// assert_eq!(card.tally(), Tally { reserved: 2, ..Tally::default() });
+    ///
+    /// let mut card = Card::with_tally(table, Tally::blank(2));
+    /// let refused = card.call(&setup(2), Verdict::Held);
+    /// assert_eq!(refused, Err(Error::Call(CallError::TallyDiffers)));
+    /// assert_eq!(card.retally()?, tally);
+    /// card.call(&setup(2), Verdict::Held)?;
+    /// # Ok::<(), Error>(())
+    /// ```
+    pub fn with_tally(table: T, tally: Tally) -> Card<T> {
+        Card { table, tally }
+    }
+
+    /// How the card is filled: the tally of its table, as the last call left
+    /// it. All numbers are 0 where the bytes are not a well-formed table. Where
+    /// a tally was [handed in](Card::with_tally), it is that one until a call
+    /// is answered.
+    pub fn tally(&self) -> Tally {
+        self.tally
+    }
+
+    /// Works the tally out afresh from the table, and gives it. A card whose
+    /// tally was not [handed in](Card::with_tally) never needs it.
+    ///
+    /// # Errors
+    ///
+    /// Where the bytes are not 1 to 15 slots, or not a well-formed table. The
+    /// card keeps what it had as its tally then.
+    pub fn retally(&mut self) -> Result<Tally, TallyError> {
+        self.tally = Tally::of(self.table())?;
+        Ok(self.tally)
+    }
+
     /// Has the card answer a request: writes its frame, with the front end's
     /// verdict, calls the agent and reads the reply.
     ///
@@ -67,7 +137,8 @@ impl<T: AsRef<[u8]> + AsMut<[u8]>> Card<T> {
     ///
     /// [`Error::Write`] where the request has too many hashes or a payload of
     /// a wrong length; [`Error::Call`] where the bytes are not a well-formed
-    /// table. Nothing is changed then.
+    /// table, or have another tally than the one
+    /// [handed in](Card::with_tally). Nothing is changed then.
     pub fn call(&mut self, request: &Request, verdict: Verdict) -> Result<Reply, Error> {
         self.call_from(0, request, verdict)
     }
@@ -123,9 +194,10 @@ impl<T: AsRef<[u8]> + AsMut<[u8]>> Card<T> {
     ///
     /// # Errors
     ///
-    /// Where the buffer has fewer than [`REPLY_ROOM`] bytes, or the bytes are not
-    /// a well-formed table or not a frame. Neither table nor buffer is changed
-    /// then.
+    /// Where the buffer has fewer than [`REPLY_ROOM`] bytes, the bytes are not a
+    /// well-formed table or not a frame, or the table has another tally than
+    /// the one [handed in](Card::with_tally). Neither table, nor tally, nor
+    /// buffer is changed then.
     ///
     /// ```
     /// use cavernlull::{Card, REPLY_ROOM};
@@ -151,14 +223,15 @@ impl<T: AsRef<[u8]> + AsMut<[u8]>> Card<T> {
     ///
     /// Those of [`call_frame`](Card::call_frame), and
     /// [`CallError::StartOutside`] where the card has no such slot, whatever
-    /// the frame. Neither table nor buffer is changed then.
+    /// the frame. Neither table, nor tally, nor buffer is changed then.
     pub fn call_frame_from<'reply>(
         &mut self,
         start: usize,
         frame: &[u8],
         reply: &'reply mut [u8],
     ) -> Result<&'reply [u8], CallError> {
-        CallError::of(archive::call(self.table.as_mut(), start, frame, reply))?;
+        let (table, tally) = (self.table.as_mut(), &mut self.tally);
+        CallError::of(archive::call(table, tally, start, frame, reply))?;
         Ok(archive::frame_in(reply))
     }
 
@@ -167,13 +240,15 @@ impl<T: AsRef<[u8]> + AsMut<[u8]>> Card<T> {
     /// not 0 gets the bit that says that one is kept; no other byte changes.
     ///
     /// Until it is turned, an old table with a count is
-    /// [not well formed](CallError::TableNotWellFormed) to the agent.
+    /// [not well formed](CallError::TableNotWellFormed) to the agent, and has no
+    /// tally. Afterwards the card has the tally of its table, whatever it had
+    /// before.
     ///
     /// # Errors
     ///
     /// Where the bytes are not 1 to 15 slots, or not a well-formed old table.
     /// A table in which a count is kept is not one: it is not turned again.
-    /// No byte is changed then.
+    /// Neither a byte nor the tally is changed then.
     ///
     /// ```
     /// use cavernlull::{Card, Handle, Reply, Request, TurnError, Verdict, SLOT_BYTES};
@@ -188,13 +263,16 @@ impl<T: AsRef<[u8]> + AsMut<[u8]>> Card<T> {
     /// let query = Request::RightsInformationQuery { handle: Handle([7; 10]) };
     /// assert!(card.call(&query, Verdict::Held).is_err());
     /// card.turn()?;
+    /// assert_eq!((card.tally().enabled, card.tally().payload), (1, 1));
     /// let told = Reply::Information { count: Some(3), payload: b"!".to_vec() };
     /// assert_eq!(card.call(&query, Verdict::Held)?, told);
     /// assert_eq!(card.turn(), Err(TurnError::TableNotWellFormed));
     /// # Ok::<(), cavernlull::Error>(())
     /// ```
     pub fn turn(&mut self) -> Result<(), TurnError> {
-        TurnError::of(archive::turn(self.table.as_mut()))
+        TurnError::of(archive::turn(self.table.as_mut()))?;
+        self.tally = Tally::of(self.table()).expect("a turned table is well formed");
+        Ok(())
     }
 
     /// The table.
@@ -212,6 +290,12 @@ impl<T> Card<T> {
     /// Gives the table back.
     pub fn into_table(self) -> T {
         self.table
+    }
+
+    /// Gives the table back with its tally, as
+    /// [`with_tally`](Card::with_tally) takes them.
+    pub fn into_parts(self) -> (T, Tally) {
+        (self.table, self.tally)
     }
 }
 

@@ -1,11 +1,13 @@
-//! What the agent, the request writer, the reply reader and the turning refuse.
+//! What the agent, the request writer, the reply reader, the turning and the
+//! working out of a tally refuse.
 //!
 //! A refusal leaves all lent memory as it was.
 
 use std::error;
 use std::fmt;
 
-/// The agent did not answer: there is no reply, and the table is as it was.
+/// The agent did not answer: there is no reply, and table and tally are as they
+/// were.
 ///
 /// A request that the card will not carry out is not such an error: it has a
 /// reply, with a [status](crate::Status) other than
@@ -26,6 +28,12 @@ pub enum CallError {
     /// 105: the start is not below the number of slots. It is looked at after
     /// the table's length and before what is in the table, whatever the frame.
     StartOutside,
+    /// 106: the tally is not that of the table. It is looked at after what is
+    /// in the table and before the frame, whatever the frame.
+    ///
+    /// A card that works its tally out itself is never refused so, only one
+    /// that was [handed another](crate::Card::with_tally).
+    TallyDiffers,
 }
 
 /// The request writer did not write: the buffer is as it was.
@@ -58,6 +66,17 @@ pub enum TurnError {
     TableNotWellFormed,
 }
 
+/// There is no tally of these bytes: they are no table that the agent takes.
+#[derive(Clone, Copy, Debug, PartialEq, Eq, Hash)]
+pub enum TallyError {
+    /// 102: the table is not 1 to 15 slots of 4,288 bytes.
+    TableLength,
+    /// 103: a slot is not well formed, or two records have the same handle. The
+    /// agent refuses the same tables with
+    /// [the same number](CallError::TableNotWellFormed).
+    TableNotWellFormed,
+}
+
 /// Any of these errors, for functions that can meet several.
 #[derive(Clone, Copy, Debug, PartialEq, Eq, Hash)]
 pub enum Error {
@@ -69,10 +88,12 @@ pub enum Error {
     Read(ReadError),
     /// The old table cannot be turned.
     Turn(TurnError),
+    /// The table has no tally.
+    Tally(TallyError),
 }
 
 impl CallError {
-    /// The number that the archive gives for this error, 101 to 105.
+    /// The number that the archive gives for this error, 101 to 106.
     pub const fn number(self) -> u16 {
         match self {
             CallError::ReplyBufferShort => 101,
@@ -80,6 +101,7 @@ impl CallError {
             CallError::TableNotWellFormed => 103,
             CallError::NoFrame => 104,
             CallError::StartOutside => 105,
+            CallError::TallyDiffers => 106,
         }
     }
 
@@ -92,6 +114,7 @@ impl CallError {
             103 => CallError::TableNotWellFormed,
             104 => CallError::NoFrame,
             105 => CallError::StartOutside,
+            106 => CallError::TallyDiffers,
             _ => unknown(number),
         })
     }
@@ -153,6 +176,26 @@ impl TurnError {
     }
 }
 
+impl TallyError {
+    /// The number that the archive gives for this error, 102 or 103.
+    pub const fn number(self) -> u16 {
+        match self {
+            TallyError::TableLength => 102,
+            TallyError::TableNotWellFormed => 103,
+        }
+    }
+
+    /// What a number from the archive means.
+    pub(crate) fn of(number: u16) -> Result<(), TallyError> {
+        Err(match number {
+            0 => return Ok(()),
+            102 => TallyError::TableLength,
+            103 => TallyError::TableNotWellFormed,
+            _ => unknown(number),
+        })
+    }
+}
+
 /// The archive is proved to give no number but those above.
 fn unknown(number: u16) -> ! {
     panic!("the archive gave {number}, which it never does: is it another version's?")
@@ -166,6 +209,7 @@ impl Error {
             Error::Call(error) => error.number(),
             Error::Read(error) => error.number(),
             Error::Turn(error) => error.number(),
+            Error::Tally(error) => error.number(),
         }
     }
 }
@@ -178,6 +222,7 @@ impl fmt::Display for CallError {
             CallError::TableNotWellFormed => "the table is not well formed",
             CallError::NoFrame => "the bytes are no frame: their length is not what they say",
             CallError::StartOutside => "the start is not below the number of slots",
+            CallError::TallyDiffers => "the tally is not that of the table",
         })
     }
 }
@@ -208,6 +253,15 @@ impl fmt::Display for TurnError {
     }
 }
 
+impl fmt::Display for TallyError {
+    fn fmt(&self, f: &mut fmt::Formatter<'_>) -> fmt::Result {
+        match self {
+            TallyError::TableLength => CallError::TableLength.fmt(f),
+            TallyError::TableNotWellFormed => CallError::TableNotWellFormed.fmt(f),
+        }
+    }
+}
+
 impl fmt::Display for Error {
     fn fmt(&self, f: &mut fmt::Formatter<'_>) -> fmt::Result {
         match self {
@@ -215,6 +269,7 @@ impl fmt::Display for Error {
             Error::Call(error) => error.fmt(f),
             Error::Read(error) => error.fmt(f),
             Error::Turn(error) => error.fmt(f),
+            Error::Tally(error) => error.fmt(f),
         }
     }
 }
@@ -226,6 +281,8 @@ impl error::Error for WriteError {}
 impl error::Error for ReadError {}
 
 impl error::Error for TurnError {}
+
+impl error::Error for TallyError {}
 
 impl error::Error for Error {}
 
@@ -250,5 +307,11 @@ impl From<ReadError> for Error {
 impl From<TurnError> for Error {
     fn from(error: TurnError) -> Error {
         Error::Turn(error)
+    }
+}
+
+impl From<TallyError> for Error {
+    fn from(error: TallyError) -> Error {
+        Error::Tally(error)
     }
 }

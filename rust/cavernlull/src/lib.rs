@@ -3,19 +3,20 @@
 //! A shop loads training courses onto cards as rights; the agent in the card
 //! keeps them in a table of slots, lends them, takes them back and removes
 //! them, by request frames. The agent, the request writer, the reply reader, the
-//! listing and the turning of old tables are proved code in an archive,
-//! `libcavernlull.a`; this crate gives them the types that Rust expects and
-//! adds nothing to what they do.
+//! listing, the tally and the turning of old tables are proved code in an
+//! archive, `libcavernlull.a`; this crate gives them the types that Rust expects
+//! and adds nothing to what they do.
 //!
 //! | | |
 //! |---|---|
-//! | [`Card`] | a table of slots, and the agent that answers requests about it |
+//! | [`Card`] | a table of slots with its tally, and the agent that answers requests about it |
 //! | [`Rotation`] | where setups begin to look for an empty slot, so that all slots wear alike |
 //! | [`Request`] | a request of one of nine [kinds](Kind), and its frame |
 //! | [`Reply`] | what the card answered, read from the frame of a reply |
 //! | [`Listing`] | what is in the slots, as text |
+//! | [`Tally`] | how a table is filled: the slots of each place, and the payload bytes |
 //! | [`Right`] | what a right holds: [`Key`], count, [hashes](AssetHash), payload |
-//! | [`CallError`], [`WriteError`], [`ReadError`], [`TurnError`] | what the agent, the writer, the reader and the turning refuse |
+//! | [`CallError`], [`WriteError`], [`ReadError`], [`TurnError`], [`TallyError`] | what the agent, the writer, the reader, the turning and the tally refuse |
 //!
 //! # Example
 //!
@@ -43,6 +44,12 @@
 //! assert!(matches!(card.call(&lending, Verdict::Held)?, Reply::Key(_)));
 //! let again = card.call(&lending, Verdict::Held)?;
 //! assert_eq!(again.status(), Status::HandleNotFound);
+//!
+//! // What a loading screen shows of the card.
+//! assert_eq!(
+//!     card.tally().to_string(),
+//!     "3 empty, 0 reserved, 0 enabled, 1 disabled, 6 payload bytes"
+//! );
 //! # Ok(())
 //! # }
 //! ```
@@ -78,10 +85,11 @@ mod request;
 mod right;
 mod rotation;
 mod status;
+mod tally;
 mod verdict;
 
 pub use card::Card;
-pub use error::{CallError, Error, ReadError, TurnError, WriteError};
+pub use error::{CallError, Error, ReadError, TallyError, TurnError, WriteError};
 pub use kind::Kind;
 pub use listing::Listing;
 pub use reply::Reply;
@@ -89,6 +97,7 @@ pub use request::Request;
 pub use right::{AssetHash, Handle, Key, Right};
 pub use rotation::Rotation;
 pub use status::Status;
+pub use tally::Tally;
 pub use verdict::Verdict;
 
 /// The bytes of a slot.

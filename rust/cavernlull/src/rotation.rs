@@ -67,10 +67,10 @@ impl Rotation {
     ///     let setup = Request::InstallationSetup { handle, room: 9 };
     ///     rotation.call(&mut card, &setup, Verdict::Held)?;
     /// }
-    /// let saved = (rotation.start(), card.into_table());
+    /// let (start, (table, tally)) = (rotation.start(), card.into_parts());
     ///
     /// // It is emptied, and loaded again with two others.
-    /// let (mut rotation, mut card) = (Rotation::from_slot(saved.0), Card::from(saved.1));
+    /// let (mut rotation, mut card) = (Rotation::from_slot(start), Card::with_tally(table, tally));
     /// for handle in [first, second] {
     ///     rotation.call(&mut card, &Request::HandleRemoval { handle }, Verdict::Held)?;
     /// }

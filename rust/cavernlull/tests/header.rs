@@ -74,6 +74,7 @@ fn errors_are_those_of_the_header() {
         ),
         ("NO_FRAME", CallError::NoFrame.number()),
         ("START_OUTSIDE", CallError::StartOutside.number()),
+        ("TALLY_DIFFERS", CallError::TallyDiffers.number()),
         ("WRITER_BUFFER_SHORT", WriteError::BufferShort.number()),
         ("WRITER_FIELDS", WriteError::Fields.number()),
         ("NO_REPLY", ReadError.number()),
@@ -82,9 +83,46 @@ fn errors_are_those_of_the_header() {
             "TABLE_NOT_WELL_FORMED",
             TurnError::TableNotWellFormed.number(),
         ),
+        ("TABLE_LENGTH", TallyError::TableLength.number()),
+        (
+            "TABLE_NOT_WELL_FORMED",
+            TallyError::TableNotWellFormed.number(),
+        ),
     ] {
         assert_eq!(constants.get(name), Some(&number.into()), "{name}");
     }
+}
+
+/// The numbers of a tally have the names and the order that the header gives
+/// them, and lie one after the other, as in C.
+#[test]
+fn a_tally_is_that_of_the_header() {
+    let structure = HEADER.split("struct cavernlull_tally {\n").nth(1);
+    let names = structure.and_then(|text| text.trim_start().strip_prefix("uint16_t "));
+    let names: Vec<&str> = names
+        .unwrap()
+        .split(';')
+        .next()
+        .unwrap()
+        .split(", ")
+        .collect();
+    let tally = Tally::default();
+    let fields: Vec<String> = names.iter().map(|name| format!("{name}: 0")).collect();
+    assert_eq!(
+        format!("{tally:?}"),
+        format!("Tally {{ {} }}", fields.join(", "))
+    );
+    let base = &tally as *const Tally as usize;
+    let offsets = [
+        &tally.empty,
+        &tally.reserved,
+        &tally.enabled,
+        &tally.disabled,
+        &tally.payload,
+    ]
+    .map(|number| number as *const u16 as usize - base);
+    assert_eq!(offsets, [0, 2, 4, 6, 8]);
+    assert_eq!(std::mem::size_of::<Tally>(), 10);
 }
 
 /// A right with this count, installed in a slot.

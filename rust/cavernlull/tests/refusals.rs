@@ -2,7 +2,7 @@
 //! leaves all lent memory as it was.
 
 use cavernlull::{AssetHash, CallError, Card, Error, Handle, Listing, ReadError, Reply};
-use cavernlull::{Request, Right, Status, TurnError, Verdict, WriteError};
+use cavernlull::{Request, Right, Status, TallyError, TurnError, Verdict, WriteError};
 use cavernlull::{MOST_SLOTS, REPLY_ROOM, REQUEST_ROOM, SLOT_BYTES};
 
 const HANDLE: Handle = Handle([1; 10]);
@@ -321,13 +321,17 @@ fn errors_are_errors_with_their_numbers() {
         CallError::TableNotWellFormed,
         CallError::NoFrame,
         CallError::StartOutside,
+        CallError::TallyDiffers,
     ];
     let mut errors: Vec<Error> = calls.map(Error::from).to_vec();
     errors.extend([WriteError::BufferShort, WriteError::Fields].map(Error::from));
     errors.push(ReadError.into());
     errors.extend([TurnError::TableLength, TurnError::TableNotWellFormed].map(Error::from));
+    errors.extend([TallyError::TableLength, TallyError::TableNotWellFormed].map(Error::from));
     let numbers: Vec<u16> = errors.iter().map(|error| error.number()).collect();
-    assert_eq!(numbers, [101, 102, 103, 104, 105, 201, 202, 203, 102, 103]);
+    let (calls, others) = numbers.split_at(6);
+    assert_eq!(calls, [101, 102, 103, 104, 105, 106]);
+    assert_eq!(others, [201, 202, 203, 102, 103, 102, 103]);
     for error in errors {
         let error: Box<dyn std::error::Error + Send + Sync> = error.into();
         assert!(error.to_string().starts_with("the "), "{error}");

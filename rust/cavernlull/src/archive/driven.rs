@@ -3,7 +3,7 @@
 //! at a time, and ends with it.
 
 use super::{Fields, Numbers};
-use crate::{KEY_BYTES, LISTING_ROOM};
+use crate::{Tally, KEY_BYTES, LISTING_ROOM};
 use driver::{Answers, Commands, Driver};
 use std::io::Result;
 use std::sync::{Mutex, PoisonError};
@@ -23,17 +23,59 @@ fn ask<A>(
     answer(answers)
 }
 
+/// The numbers of a tally, in the order in which the driver has them.
+fn numbers(tally: &Tally) -> driver::Tally {
+    [
+        tally.empty,
+        tally.reserved,
+        tally.enabled,
+        tally.disabled,
+        tally.payload,
+    ]
+}
+
+/// The tally that has these numbers.
+fn tally_of([empty, reserved, enabled, disabled, payload]: driver::Tally) -> Tally {
+    Tally {
+        empty,
+        reserved,
+        enabled,
+        disabled,
+        payload,
+    }
+}
+
 /// `cavernlull_call`.
-pub(crate) fn call(table: &mut [u8], start: usize, frame: &[u8], reply: &mut [u8]) -> u16 {
+pub(crate) fn call(
+    table: &mut [u8],
+    tally: &mut Tally,
+    start: usize,
+    frame: &[u8],
+    reply: &mut [u8],
+) -> u16 {
     let given = ask(
         |commands| {
             commands.table(table)?;
-            commands.call(start as u64, frame, reply)
+            commands.call(&numbers(tally), start as u64, frame, reply)
         },
         Answers::call,
     );
     table.copy_from_slice(&given.table);
+    *tally = tally_of(given.tally);
     reply.copy_from_slice(&given.reply);
+    given.number
+}
+
+/// `cavernlull_tally`.
+pub(crate) fn tally(table: &[u8], tally: &mut Tally) -> u16 {
+    let given = ask(
+        |commands| {
+            commands.table(table)?;
+            commands.tally(&numbers(tally))
+        },
+        Answers::tallied,
+    );
+    *tally = tally_of(given.tally);
     given.number
 }
 

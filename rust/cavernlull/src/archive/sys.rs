@@ -9,12 +9,13 @@
 #![allow(unsafe_code)]
 
 use super::{Fields, Numbers};
-use crate::{KEY_BYTES, LISTING_ROOM};
+use crate::{Tally, KEY_BYTES, LISTING_ROOM};
 
 extern "C" {
     fn cavernlull_call(
         table: *mut u8,
         table_length: usize,
+        tally: *mut Tally,
         start: usize,
         frame: *const u8,
         frame_length: usize,
@@ -49,16 +50,27 @@ extern "C" {
     fn cavernlull_list(table: *const u8, table_length: usize, out: *mut u8) -> usize;
 
     fn cavernlull_turn(table: *mut u8, table_length: usize) -> u16;
+
+    fn cavernlull_tally(table: *const u8, table_length: usize, tally: *mut Tally) -> u16;
 }
 
 /// `cavernlull_call`.
-pub(crate) fn call(table: &mut [u8], start: usize, frame: &[u8], reply: &mut [u8]) -> u16 {
-    // SAFETY: each pointer is that of a slice, with its length; `table` and
-    // `reply` are borrowed to be changed, so no two of the three overlap.
+pub(crate) fn call(
+    table: &mut [u8],
+    tally: &mut Tally,
+    start: usize,
+    frame: &[u8],
+    reply: &mut [u8],
+) -> u16 {
+    // SAFETY: each pointer but `tally` is that of a slice, with its length;
+    // `Tally` has the layout of the header's structure, and any numbers in it
+    // will do; `table`, `tally` and `reply` are borrowed to be changed, so no
+    // two of the four overlap.
     unsafe {
         cavernlull_call(
             table.as_mut_ptr(),
             table.len(),
+            tally,
             start,
             frame.as_ptr(),
             frame.len(),
@@ -121,4 +133,12 @@ pub(crate) fn turn(table: &mut [u8]) -> u16 {
     // SAFETY: the pointer is that of a slice, with its length, which is
     // borrowed to be changed.
     unsafe { cavernlull_turn(table.as_mut_ptr(), table.len()) }
+}
+
+/// `cavernlull_tally`.
+pub(crate) fn tally(table: &[u8], tally: &mut Tally) -> u16 {
+    // SAFETY: the table's pointer is that of a slice, with its length; `Tally`
+    // has the layout of the header's structure, and is borrowed to be changed,
+    // so it does not overlap the table.
+    unsafe { cavernlull_tally(table.as_ptr(), table.len(), tally) }
 }
