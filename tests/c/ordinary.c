@@ -1,11 +1,12 @@
 /* An ordinary C program that links libcavernlull.a, as a front end or a device does: one course on its way through a card of
  * two slots. It is set up, installed, listed, lent, refused a second time and under a handle in use, returned and removed. Then
  * it is set up with other starts, and in one slot after the other; it has a count of 1, which is used up and stays so; and it
- * is on an old card, whose table is turned.
+ * is on an old card, whose table is turned. The card's tally is kept beside its table, and lent with each call.
  *
  * Each step is checked against what the header promises: the number, every byte of the reply buffer, every byte of the table,
- * what the reply reader reads in the reply, and the listing. The expected bytes are written here by hand. The program prints
- * the first check that fails and exits with 1, or prints how many checks held and exits with 0.
+ * the five numbers of the tally, what the reply reader reads in the reply, and the listing. The expected bytes and numbers are
+ * written here by hand. The program prints the first check that fails and exits with 1, or prints how many checks held and exits
+ * with 0.
  */
 #include "cavernlull.h"
 
@@ -24,6 +25,7 @@ static const uint8_t payload[] = {'w', 'e', 'l', 'd', 'i', 'n', 'g'};
 static uint8_t key[CAVERNLULL_KEY_BYTES], hashes[2 * CAVERNLULL_HASH_BYTES];
 
 static uint8_t table[TABLE_BYTES], expected[TABLE_BYTES];
+static struct cavernlull_tally tally = {SLOTS, 0, 0, 0, 0};
 static size_t start; /* of the calls */
 static uint8_t frame[REQUEST_ROOM], reply[CAVERNLULL_REPLY_ROOM + 1];
 static uint16_t fields[CAVERNLULL_REPLY_NUMBERS];
@@ -81,6 +83,58 @@ static void put_right(enum place place, const uint8_t *handle, struct count coun
     put_slot(0, place, handle, count, sizeof payload);
 }
 
+/* ---- the tally (PROFILE 2.8) */
+static int same_tally(struct cavernlull_tally a, struct cavernlull_tally b) {
+    return a.empty == b.empty && a.reserved == b.reserved && a.enabled == b.enabled && a.disabled == b.disabled &&
+           a.payload == b.payload;
+}
+
+/* The tally of the expected table, by the place and the length in each slot. */
+static struct cavernlull_tally expected_tally(void) {
+    struct cavernlull_tally all = {0, 0, 0, 0, 0};
+    for (size_t at = 0; at < TABLE_BYTES; at += CAVERNLULL_SLOT_BYTES) {
+        enum place place = (enum place)(expected[at] >> 6);
+        all.empty += place == EMPTY;
+        all.reserved += place == RESERVED;
+        all.enabled += place == ENABLED;
+        all.disabled += place == DISABLED;
+        if (place == ENABLED || place == DISABLED) all.payload += (uint16_t)(expected[at + 29] << 8 | expected[at + 30]);
+    }
+    return all;
+}
+
+/* A tally whose every number is filled, between two others, so that a write beside it shows. */
+struct between {
+    uint16_t before;
+    struct cavernlull_tally tally;
+    uint16_t after;
+};
+
+static struct between between_fillers(void) {
+    struct between one;
+    memset(&one, FILLER, sizeof one);
+    return one;
+}
+
+/* The tally has these numbers, and it is the one that is worked out of the table afresh. */
+static void tallied(uint16_t empty, uint16_t reserved, uint16_t enabled, uint16_t disabled, uint16_t payload_bytes) {
+    struct cavernlull_tally numbers = {empty, reserved, enabled, disabled, payload_bytes};
+    struct between afresh = between_fillers();
+    CHECK(same_tally(tally, numbers));
+    CHECK(cavernlull_tally(table, sizeof table, &afresh.tally) == CAVERNLULL_DONE);
+    CHECK(same_tally(afresh.tally, numbers));
+    CHECK(afresh.before == 0xA5A5 && afresh.after == 0xA5A5);
+    CHECK(memcmp(table, expected, sizeof table) == 0);
+}
+
+/* No tally is worked out: this is the number, and nothing is changed. */
+static void no_tally(uint16_t number, size_t table_length) {
+    struct between afresh = between_fillers(), filled_so = afresh;
+    CHECK(cavernlull_tally(table, table_length, &afresh.tally) == number);
+    CHECK(memcmp(&afresh, &filled_so, sizeof afresh) == 0);
+    CHECK(memcmp(table, expected, sizeof table) == 0);
+}
+
 /* ---- requests: each writes a frame */
 static void write_plain(uint8_t kind, const uint8_t *handle, const uint8_t *new_handle, uint16_t room) {
     CHECK(cavernlull_write_request(kind, handle, new_handle, none, room, 0, 0, 0, none, 0, none, 0, frame, sizeof frame) ==
@@ -102,18 +156,19 @@ static void write_list(uint16_t limit) {
                                    sizeof frame) == CAVERNLULL_DONE);
 }
 
-/* ---- the call: number, status and the bit of a kept count, body, the rest of the buffer, the table, and what the reply reader
- * reads in the reply */
+/* ---- the call: number, status and the bit of a kept count, body, the rest of the buffer, the table, its tally, and what the
+ * reply reader reads in the reply */
 static void call_telling(uint8_t kept_bit, uint8_t status, const uint8_t *body, size_t body_length) {
     uint8_t sent_key[CAVERNLULL_KEY_BYTES];
     memset(reply, FILLER, sizeof reply);
-    CHECK(cavernlull_call(table, sizeof table, start, frame, length_of(frame), reply, sizeof reply) == CAVERNLULL_DONE);
+    CHECK(cavernlull_call(table, sizeof table, &tally, start, frame, length_of(frame), reply, sizeof reply) == CAVERNLULL_DONE);
     CHECK(reply[0] == frame[0]);
     CHECK(reply[1] == (kept_bit | status));
     CHECK(length_of(reply) == 4 + body_length);
     CHECK(memcmp(reply + 4, body, body_length) == 0);
     CHECK(filled(reply + 4 + body_length, sizeof reply - 4 - body_length, FILLER));
     CHECK(memcmp(table, expected, sizeof table) == 0);
+    CHECK(same_tally(tally, expected_tally()));
     CHECK(cavernlull_read_reply(reply, length_of(reply), sent_key, fields) == CAVERNLULL_DONE);
     CHECK(fields[CAVERNLULL_REPLY_KIND] == (frame[0] & 31));
     CHECK(fields[CAVERNLULL_REPLY_STATUS] == status);
@@ -147,11 +202,13 @@ static void installs(void) {
     CHECK(memcmp(frame, written, sizeof written) == 0);
     frame[1] = 0; /* the front end: the MAC did not hold */
     refused(CAVERNLULL_FIELD_INTEGRITY_VERIFICATION_FAILED);
+    tallied(2, 0, 0, 0, 0);
     frame[1] = 0x80;
     put_reserved(0, course, 300);
     done();
     refused(CAVERNLULL_DUPLICATE_HANDLE);
     listed("0 reserved 0 0 300\n1 empty 0 0 0\n");
+    tallied(1, 1, 0, 0, 0); /* room that is only reserved is no payload */
     write_installation(other, kept(9));
     refused(CAVERNLULL_HANDLE_NOT_FOUND);
     write_installation(course, kept(9));
@@ -162,12 +219,14 @@ static void installs(void) {
     put_right(ENABLED, course, kept(9));
     done();
     refused(CAVERNLULL_UNEXPECTED_REQUEST);
+    tallied(1, 0, 1, 0, 7);
     write_plain(CAVERNLULL_INSTALLATION_SETUP, other, none, 1);
     put_reserved(1, other, 1);
     done();
     write_plain(CAVERNLULL_INSTALLATION_SETUP, borrower, none, 1);
     refused(CAVERNLULL_NOT_ENOUGH_SPACE);
     listed("0 enabled 2 9 7\n1 reserved 0 0 1\n");
+    tallied(0, 1, 1, 0, 7);
 }
 
 static void lists(const uint8_t *handle) {
@@ -197,6 +256,7 @@ static void lends(void) {
     write_list(0);
     call(CAVERNLULL_SUCCESS, none, 1);
     listed("0 disabled 2 9 7\n1 reserved 0 0 1\n");
+    tallied(0, 1, 0, 1, 7);
 }
 
 /* A return whose reply was lost is sent again, with another count or with none, and changes nothing. */
@@ -208,6 +268,7 @@ static void takes_back(void) {
     done();
     write_return(borrower, no_count);
     done();
+    tallied(0, 1, 1, 0, 7);
     uint8_t body[2 + sizeof payload] = {0, 8};
     memcpy(body + 2, payload, sizeof payload);
     write_plain(CAVERNLULL_RIGHTS_INFORMATION_QUERY, borrower, none, 0);
@@ -233,14 +294,17 @@ static void retrieves(struct count count) {
 
 static void removes(void) {
     retrieves(kept(8));
+    tallied(0, 1, 0, 1, 7);
     write_plain(CAVERNLULL_RIGHTS_REMOVAL, course, none, 0);
     memset(expected, 0, CAVERNLULL_SLOT_BYTES);
     done();
     refused(CAVERNLULL_HANDLE_NOT_FOUND);
+    tallied(1, 1, 0, 0, 0);
     write_plain(CAVERNLULL_HANDLE_REMOVAL, other, none, 0);
     memset(expected, 0, sizeof expected);
     done();
     listed("0 empty 0 0 0\n1 empty 0 0 0\n");
+    tallied(2, 0, 0, 0, 0);
 }
 
 /* ---- starts: a setup looks for an empty slot from the start upward, and then from slot 0 up to the slot before it */
@@ -266,9 +330,11 @@ static void starts(void) {
     memcpy(body + 1 + sizeof other, course, sizeof course);
     write_list(0);
     call(CAVERNLULL_SUCCESS, body, sizeof body);
+    tallied(0, 0, 2, 0, 14);
     write_plain(CAVERNLULL_RIGHTS_REMOVAL, course, none, 0);
     memset(expected + CAVERNLULL_SLOT_BYTES, 0, CAVERNLULL_SLOT_BYTES);
     done();
+    tallied(1, 0, 1, 0, 7);
     write_plain(CAVERNLULL_RIGHTS_REMOVAL, other, none, 0);
     memset(expected, 0, sizeof expected);
     done();
@@ -327,11 +393,13 @@ static void turning_leaves(uint16_t number, size_t table_length) {
     CHECK(memcmp(table, expected, sizeof table) == 0);
 }
 
+/* A turning takes no tally, and changes no number of one; before it there is none. */
 static void turns(void) {
     put_right(ENABLED, course, (struct count){9, 0});
     put_reserved(1, other, 1);
     memcpy(table, expected, sizeof table);
     listed_after("refused 103\n", "");
+    no_tally(CAVERNLULL_TABLE_NOT_WELL_FORMED, TABLE_BYTES);
     turning_leaves(CAVERNLULL_TABLE_LENGTH, TABLE_BYTES - 1);
     turning_leaves(CAVERNLULL_TABLE_LENGTH, 0);
     table[TABLE_BYTES - 1] = expected[TABLE_BYTES - 1] = 1; /* a reserved slot with a byte set */
@@ -342,19 +410,88 @@ static void turns(void) {
     CHECK(memcmp(table, expected, sizeof table) == 0);
     turning_leaves(CAVERNLULL_TABLE_NOT_WELL_FORMED, TABLE_BYTES); /* it is turned already */
     listed("0 enabled 2 9 7\n1 reserved 0 0 1\n");
+    CHECK(cavernlull_tally(table, sizeof table, &tally) == CAVERNLULL_DONE);
+    tallied(0, 1, 1, 0, 7);
+    lists(course);
     put_right(ENABLED, course, no_count);
     memcpy(table, expected, sizeof table);
     turning_leaves(CAVERNLULL_DONE, TABLE_BYTES); /* there is no count */
-    memset(table, 0, sizeof table);
-    memset(expected, 0, sizeof expected);
+    tallied(0, 1, 1, 0, 7);
+}
+
+/* ---- what is no table has no tally; the card has a right and a reservation, as the turning left them */
+static void tally_refusals(void) {
+    no_tally(CAVERNLULL_TABLE_LENGTH, 0);
+    no_tally(CAVERNLULL_TABLE_LENGTH, TABLE_BYTES - 1);
+    table[TABLE_BYTES - 1] = expected[TABLE_BYTES - 1] = 1; /* a reserved slot with a byte set */
+    no_tally(CAVERNLULL_TABLE_LENGTH, TABLE_BYTES - 1);
+    no_tally(CAVERNLULL_TABLE_NOT_WELL_FORMED, TABLE_BYTES);
+    table[TABLE_BYTES - 1] = expected[TABLE_BYTES - 1] = 0;
+    memcpy(table + CAVERNLULL_SLOT_BYTES + 1, course, sizeof course); /* two records under one handle */
+    memcpy(expected + CAVERNLULL_SLOT_BYTES + 1, course, sizeof course);
+    no_tally(CAVERNLULL_TABLE_NOT_WELL_FORMED, TABLE_BYTES);
+    put_reserved(1, other, 1);
+    memcpy(table, expected, sizeof table);
 }
 
 /* ---- a refusal leaves all lent memory as it was */
 static void call_refused(uint16_t number, size_t table_length, size_t frame_length, size_t reply_length) {
+    struct cavernlull_tally before = tally;
     memset(reply, FILLER, sizeof reply);
-    CHECK(cavernlull_call(table, table_length, start, frame, frame_length, reply, reply_length) == number);
+    CHECK(cavernlull_call(table, table_length, &tally, start, frame, frame_length, reply, reply_length) == number);
     CHECK(filled(reply, sizeof reply, FILLER));
     CHECK(memcmp(table, expected, sizeof table) == 0);
+    CHECK(same_tally(tally, before));
+}
+
+/* A tally that differs is refused after all else that is wrong with buffer, start and table, and before the frame. */
+static void differs(void) {
+    write_plain(CAVERNLULL_RIGHTS_REMOVAL, course, none, 0);
+    call_refused(CAVERNLULL_REPLY_BUFFER_SHORT, TABLE_BYTES, 3, CAVERNLULL_REPLY_ROOM - 1);
+    call_refused(CAVERNLULL_TABLE_LENGTH, TABLE_BYTES - 1, 3, CAVERNLULL_REPLY_ROOM);
+    start = SLOTS;
+    call_refused(CAVERNLULL_START_OUTSIDE, TABLE_BYTES, 3, CAVERNLULL_REPLY_ROOM);
+    start = 0;
+    table[TABLE_BYTES - 1] = expected[TABLE_BYTES - 1] = 1; /* a reserved slot with a byte set */
+    call_refused(CAVERNLULL_TABLE_NOT_WELL_FORMED, TABLE_BYTES, 3, CAVERNLULL_REPLY_ROOM);
+    table[TABLE_BYTES - 1] = expected[TABLE_BYTES - 1] = 0;
+    call_refused(CAVERNLULL_TALLY_DIFFERS, TABLE_BYTES, 3, CAVERNLULL_REPLY_ROOM);
+    call_refused(CAVERNLULL_TALLY_DIFFERS, TABLE_BYTES, length_of(frame), CAVERNLULL_REPLY_ROOM);
+    write_list(0); /* a request that changes nothing */
+    call_refused(CAVERNLULL_TALLY_DIFFERS, TABLE_BYTES, length_of(frame), CAVERNLULL_REPLY_ROOM);
+}
+
+static uint16_t *number_of(struct cavernlull_tally *one, int index) {
+    uint16_t *const numbers[] = {&one->empty, &one->reserved, &one->enabled, &one->disabled, &one->payload};
+    return numbers[index];
+}
+
+/* One number of the tally is another: by one, in its high byte, or at either end. */
+static void number_differs(int index) {
+    uint16_t *number = number_of(&tally, index), right = *number;
+    const uint16_t others[] = {(uint16_t)(right + 1), (uint16_t)(right - 1), right ^ 0x100, right ^ 0xFFFF, 0, 0xFFFF};
+    for (size_t i = 0; i < sizeof others / sizeof others[0]; i++) {
+        if (others[i] == right) continue;
+        *number = others[i];
+        differs();
+    }
+    *number = right;
+}
+
+/* Afterwards the tally is worked out, and the card emptied. */
+static void tallies_differ(void) {
+    for (int index = 0; index < 5; index++) number_differs(index);
+    tally = (struct cavernlull_tally){1, 0, 1, 0, 7}; /* as many slots, but one of them in another place */
+    differs();
+    CHECK(cavernlull_tally(table, sizeof table, &tally) == CAVERNLULL_DONE);
+    tallied(0, 1, 1, 0, 7);
+    write_plain(CAVERNLULL_RIGHTS_REMOVAL, course, none, 0);
+    memset(expected, 0, CAVERNLULL_SLOT_BYTES);
+    done();
+    write_plain(CAVERNLULL_HANDLE_REMOVAL, other, none, 0);
+    memset(expected, 0, sizeof expected);
+    done();
+    tallied(2, 0, 0, 0, 0);
 }
 
 static void call_refusals(void) {
@@ -438,6 +575,8 @@ int main(void) {
     counts(kept(0xFFFF), no_count);
     counts(no_count, kept(256));
     turns();
+    tally_refusals();
+    tallies_differ();
     call_refusals();
     start_refusals();
     writer_refusals();

@@ -53,6 +53,7 @@ fn right(uses: u16, text: &str) -> Right {
 /// whose uses run out.
 pub fn steps() -> Vec<Step> {
     let mut steps = loading();
+    steps.extend(loading_another());
     steps.extend(lending());
     steps.extend(using_up());
     steps.extend(removing());
@@ -157,18 +158,14 @@ fn removing() -> Vec<Step> {
     ]
 }
 
-/// Two courses are set up and installed, and listed.
+/// A course is set up and installed.
 fn loading() -> Vec<Step> {
-    let list = Request::HandleListQuery {
-        limit: 0,
-        hashes: vec![],
-    };
     vec![
         step(
             "Room is set up for a course",
             setup(COURSE, 24),
             Status::Success,
-            "The search begins at slot 0, which is empty. It is reserved under the course's handle.",
+            "The search begins at slot 0, which is empty. It is reserved under the course's handle, with no payload yet.",
         ),
         step(
             "The course is installed",
@@ -182,6 +179,16 @@ fn loading() -> Vec<Step> {
             Status::DuplicateHandle,
             "A handle is never given twice.",
         ),
+    ]
+}
+
+/// Another course is set up and installed, and both are listed.
+fn loading_another() -> Vec<Step> {
+    let list = Request::HandleListQuery {
+        limit: 0,
+        hashes: vec![],
+    };
+    vec![
         step(
             "Room for another course",
             setup(OTHER, 24),

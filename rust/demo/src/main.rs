@@ -1,7 +1,7 @@
 //! Courses on one card, as the order desk sees it: `make demo`.
 //!
 //! Each step is a request, with its frame and the card's reply in hex, what
-//! they mean, and the card's listing afterwards.
+//! they mean, and the card's tally and listing afterwards.
 
 mod course;
 mod screen;
@@ -24,7 +24,7 @@ fn main() -> io::Result<()> {
 fn walk(screen: &Screen) -> Result<String, Error> {
     let (mut card, mut rotation) = (Card::blank(SLOTS), Rotation::new());
     let mut text = screen.title(&format!("One course on a card of {SLOTS} slots"));
-    text += &screen.listing(&card.listing());
+    text += &screen.card(&card);
     for (index, step) in course::steps().iter().enumerate() {
         text += &screen.heading(index + 1, step.title);
         text += &shown(screen, &mut card, &mut rotation, step)?;
@@ -32,7 +32,7 @@ fn walk(screen: &Screen) -> Result<String, Error> {
     Ok(text)
 }
 
-/// One step: the request, the reply and the listing.
+/// One step: the request, the reply, and what is on the card then.
 fn shown(
     screen: &Screen,
     card: &mut Card,
@@ -47,7 +47,7 @@ fn shown(
     assert_eq!(reply.status(), step.expected, "{}", step.title);
     text += &screen.reply(answer, &answered(&reply), reply.status() == Status::Success);
     text += &screen.note(step.why);
-    text += &screen.listing(&card.listing());
+    text += &screen.card(card);
     Ok(text)
 }
 
@@ -158,6 +158,47 @@ mod tests {
         let places: Vec<&str> = lines.map(|line| line.trim_start()).collect();
         assert!(places[0].starts_with("0 empty"), "{places:?}");
         assert_eq!(places[3], "3 reserved 0 0 24");
+    }
+
+    /// The five numbers in a line of the screen.
+    fn shown(line: &str) -> [u32; 5] {
+        let numbers = line
+            .split(", ")
+            .map(|part| part.split(' ').next()?.parse().ok());
+        let numbers: Option<Vec<u32>> = numbers.collect();
+        let numbers = numbers.expect("each part begins with a number");
+        numbers.try_into().expect("there are five")
+    }
+
+    /// The five numbers that the lines of a listing give: each has a slot, its
+    /// place, and its length at the end.
+    fn counted<'a>(lines: impl Iterator<Item = &'a str>) -> [u32; 5] {
+        let mut numbers = [0; 5];
+        for line in lines {
+            let words: Vec<&str> = line.split_whitespace().collect();
+            let places = ["empty", "reserved", "enabled", "disabled"];
+            let place = places.iter().position(|place| *place == words[1]);
+            let place = place.expect("a place");
+            numbers[place] += 1;
+            if place >= 2 {
+                numbers[4] += words[4].parse::<u32>().expect("a length");
+            }
+        }
+        numbers
+    }
+
+    /// Before the first step and after each, the screen has the numbers of the
+    /// listing below them.
+    #[test]
+    fn the_tally_of_each_step_is_that_of_its_listing() {
+        let text = walk(&Screen::new(false)).expect("it walks");
+        let cards: Vec<&str> = text.split("  card     ").skip(1).collect();
+        assert_eq!(cards.len(), super::course::steps().len() + 1);
+        for card in cards {
+            let (tally, listing) = card.split_once('\n').expect("a listing follows");
+            let slots = listing.lines().skip(1).take(super::SLOTS);
+            assert_eq!(shown(tally), counted(slots), "{card}");
+        }
     }
 
     #[test]

@@ -1,7 +1,7 @@
-//! What is shown: hex with its meaning beside it, and listings. Colour is for
-//! terminals alone.
+//! What is shown: hex with its meaning beside it, tallies and listings. Colour is
+//! for terminals alone.
 
-use cavernlull::Listing;
+use cavernlull::{Card, Tally};
 
 /// How many bytes of a frame are shown on one line.
 const LINE: usize = 20;
@@ -55,10 +55,15 @@ impl Screen {
         format!("  {}\n", self.paint("2", text))
     }
 
-    /// What is on the card.
-    pub fn listing(&self, listing: &Listing) -> String {
-        let mut text = String::new();
-        for line in listing.as_str().lines() {
+    /// How the card is filled: five numbers, as a loading screen has them.
+    fn tally(&self, tally: Tally) -> String {
+        format!("  card     {}\n", self.paint("1", &tally.to_string()))
+    }
+
+    /// What is on the card: its tally, and then its listing.
+    pub fn card(&self, card: &Card) -> String {
+        let mut text = self.tally(card.tally());
+        for line in card.listing().as_str().lines() {
             text += &format!("    {line}\n");
         }
         text
