@@ -6,7 +6,8 @@
 
 #include "cavernlull.h"
 
-typedef uint16_t agent_function(uint8_t *, size_t, size_t, const uint8_t *, size_t, uint8_t *, size_t);
+typedef uint16_t agent_function(uint8_t *, size_t, struct cavernlull_tally *, size_t, const uint8_t *, size_t, uint8_t *,
+                                size_t);
 
 #define AGENT(name, function) agent_function function;
 OTHER_AGENTS

@@ -9,6 +9,7 @@ void *memcpy(void *restrict to, const void *restrict from, size_t length);
 
 static struct scenario scenario;
 static uint8_t table[TABLE], reply[REPLY];
+static struct cavernlull_tally tally;
 
 static unsigned number(const char *digits) {
     unsigned n = 0;
@@ -22,8 +23,11 @@ int main(int words, char **word) {
     if (who >= AGENTS) return 3;
     if (!make_scenario(&scenario, number(word[2]))) return 4;
     memcpy(table, scenario.table, TABLE);
+    tally = scenario.tally;
     for (unsigned times = number(word[3]); times > 0; times--)
-        for (size_t i = 0; i < scenario.count; i++)
-            agents[who].call(table, TABLE, scenario.start, scenario.steps[i].frame, scenario.steps[i].length, reply, REPLY);
+        for (size_t i = 0; i < scenario.count; i++) {
+            const struct step *step = &scenario.steps[i];
+            agents[who].call(table, TABLE, &tally, scenario.start, step->frame, step->length, reply, REPLY);
+        }
     return 0;
 }

@@ -2,8 +2,8 @@
  *
  * It prints a line for each scenario: the proved agent's time, its ratios to the others' times, and its ratio to the time that
  * reading the table takes. The agents take turns within each round, and each round gives one ratio, so that whatever else the
- * machine does in that time slows all of them alike. Before anything is timed, every agent must give the same numbers, replies
- * and tables.
+ * machine does in that time slows all of them alike. Before anything is timed, every agent must give the same numbers, replies,
+ * tables and tallies.
  */
 #define _POSIX_C_SOURCE 200809L
 #include <stdio.h>
@@ -20,32 +20,54 @@ uint8_t reads(const uint8_t *s, size_t length);
 
 static struct scenario scenario;
 static uint8_t table[TABLE], reply[REPLY];
+static struct cavernlull_tally tally; /* kept beside the table, as a caller keeps it */
 
 /* Makes the calls of the scenario once. */
 static uint16_t cycle(agent_function *call) {
     uint16_t number = 0;
-    for (size_t i = 0; i < scenario.count; i++)
-        number |= call(table, TABLE, scenario.start, scenario.steps[i].frame, scenario.steps[i].length, reply, REPLY);
+    for (size_t i = 0; i < scenario.count; i++) {
+        const struct step *step = &scenario.steps[i];
+        number |= call(table, TABLE, &tally, scenario.start, step->frame, step->length, reply, REPLY);
+    }
     return number;
 }
 
 /* ---- that all agents do the same */
+static struct left {
+    uint8_t table[TABLE], reply[REPLY];
+    struct cavernlull_tally tally, tallies[MOST_STEPS]; /* at the end, and after each call */
+} left[2];
+
+static int same_tally(const struct cavernlull_tally *a, const struct cavernlull_tally *b) {
+    return a->empty == b->empty && a->reserved == b->reserved && a->enabled == b->enabled && a->disabled == b->disabled &&
+           a->payload == b->payload;
+}
+
+/* Makes the calls of the scenario, and gives whether they do what it says. */
+static int made(agent_function *call, struct left *l) {
+    memcpy(l->table, scenario.table, TABLE);
+    memset(l->reply, 0xa5, REPLY);
+    l->tally = scenario.tally;
+    for (size_t i = 0; i < scenario.count; i++) {
+        const struct step *step = &scenario.steps[i];
+        uint16_t number = call(l->table, TABLE, &l->tally, scenario.start, step->frame, step->length, l->reply, REPLY);
+        unsigned status = l->reply[1] & 0x7f; /* beside the bit of a kept count */
+        if (number != scenario.number || (number == 0 && status != 0)) return 0;
+        l->tallies[i] = l->tally;
+    }
+    return memcmp(l->table, scenario.table, TABLE) == 0 && same_tally(&l->tally, &scenario.tally);
+}
+
+static int same_left(const struct left *a, const struct left *b) {
+    for (size_t i = 0; i < scenario.count; i++)
+        if (!same_tally(&a->tallies[i], &b->tallies[i])) return 0;
+    return memcmp(a->reply, b->reply, REPLY) == 0;
+}
+
 static void must_agree(void) {
-    static uint8_t tables[2][TABLE], replies[2][REPLY];
     for (int k = 0; k < AGENTS; k++) {
-        memcpy(tables[k > 0], scenario.table, TABLE);
-        memset(replies[k > 0], 0xa5, REPLY);
-        for (size_t i = 0; i < scenario.count; i++) {
-            const struct step *step = &scenario.steps[i];
-            uint16_t number =
-                agents[k].call(tables[k > 0], TABLE, scenario.start, step->frame, step->length, replies[k > 0], REPLY);
-            unsigned status = replies[k > 0][1] & 0x7f; /* beside the bit of a kept count */
-            if (number != scenario.number || (number == 0 && status != 0)) goto differs;
-        }
-        if (memcmp(tables[k > 0], scenario.table, TABLE) != 0) goto differs;
-        if (k > 0 && memcmp(replies[0], replies[1], REPLY) != 0) goto differs;
-        continue;
-    differs:
+        struct left *l = &left[k > 0];
+        if (made(agents[k].call, l) && same_left(l, &left[0])) continue;
         fprintf(stderr, "run: %s: %s does something else\n", scenario.name, agents[k].name);
         exit(1);
     }
@@ -77,6 +99,7 @@ static double part_of(double *values, double part) { return values[(size_t)(part
 static void measure(void) {
     static double times[AGENTS + 1][ROUNDS], ratios[AGENTS + 1][ROUNDS];
     memcpy(table, scenario.table, TABLE);
+    tally = scenario.tally;
     unsigned repeats = 1 + (unsigned)(ROUND_NS / timed(agents[0].call, 20));
     for (size_t round = 0; round < ROUNDS; round++) {
         for (size_t turn = 0; turn <= AGENTS; turn++) {

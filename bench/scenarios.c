@@ -34,6 +34,17 @@ static void put_slot(uint8_t *s, int place, unsigned hashes, size_t length) {
     random_bytes(s + 192, length);
 }
 
+/* The tally of the table (PROFILE 2.8). */
+static struct cavernlull_tally counted(const uint8_t *table) {
+    struct cavernlull_tally t = {0, 0, 0, 0, 0};
+    for (const uint8_t *s = table; s < table + TABLE; s += SLOT) {
+        uint16_t *of_place[] = {&t.empty, &t.reserved, &t.enabled, &t.disabled};
+        ++*of_place[s[0] >> 6];
+        if (s[0] >> 6 >= ENABLED) t.payload = (uint16_t)(t.payload + (s[29] << 8 | s[30]));
+    }
+    return t;
+}
+
 static void reserve(struct scenario *s) {
     for (unsigned i = 0; i < SLOTS; i++) put_slot(s->table + SLOT * i, RESERVED, 0, 4096);
 }
@@ -118,9 +129,15 @@ static void ask_to_install(struct scenario *s) {
     ask_under(s, 6, new, new, 0);
 }
 
-int make_scenario(struct scenario *s, unsigned index) {
-    memset(s, 0, sizeof *s);
-    state = 0x9e3779b97f4a7c15;
+/* A query that is refused for the last byte of the table, or for a tally with one payload byte too few. */
+static void ask_to_be_refused(struct scenario *s, uint16_t number) {
+    s->number = number;
+    if (number == 103) s->table[TABLE - 1] = 1;
+    ask_list(s);
+}
+
+/* Lays out the table and the requests of the scenario of this index. */
+static int lay_out(struct scenario *s, unsigned index) {
     switch (index) {
     case 0: s->name = "blank, list query"; ask_list(s); break;
     case 1: s->name = "full, 100 bytes each, list query"; fill(s, 15, 100); ask_list(s); break;
@@ -138,21 +155,33 @@ int make_scenario(struct scenario *s, unsigned index) {
     case 9:
         s->name = "full, 100 bytes each, refused with 103 at the last byte";
         fill(s, 15, 100);
-        s->table[TABLE - 1] = 1;
-        s->number = 103;
-        ask_list(s);
+        ask_to_be_refused(s, 103);
         break;
     case 10:
+        s->name = "full, 100 bytes each, refused with 106 for one payload byte";
+        fill(s, 15, 100);
+        ask_to_be_refused(s, 106);
+        break;
+    case 11:
         s->name = "full, 100 bytes each, handles that differ in the last byte, list query";
         fill_under_like_handles(s, 100, 9);
         ask_list(s);
         break;
-    case 11:
+    case 12:
         s->name = "full, 100 bytes each, handles that differ in the last byte but one, list query";
         fill_under_like_handles(s, 100, 8);
         ask_list(s);
         break;
     default: return 0;
     }
+    return 1;
+}
+
+int make_scenario(struct scenario *s, unsigned index) {
+    memset(s, 0, sizeof *s);
+    state = 0x9e3779b97f4a7c15;
+    if (!lay_out(s, index)) return 0;
+    s->tally = counted(s->table);
+    if (s->number == 106) s->tally.payload--;
     return 1;
 }

@@ -2,8 +2,7 @@
 #ifndef SCENARIOS_H
 #define SCENARIOS_H
 
-#include <stddef.h>
-#include <stdint.h>
+#include "cavernlull.h"
 
 enum { SLOT = 4288, SLOTS = 15, TABLE = SLOT * SLOTS, REPLY = 4279, MOST_STEPS = 4, MOST_FRAME = 4300 };
 
@@ -12,10 +11,12 @@ struct step {
     size_t length;
 };
 
-/* A table, and requests that leave it, taken together, as it was. `start` is that of each call, and `number` what it gives. */
+/* A table, the tally kept beside it, and requests that leave both, taken together, as they were. `start` is that of each
+ * call, and `number` what it gives. */
 struct scenario {
     const char *name;
     uint8_t table[TABLE];
+    struct cavernlull_tally tally;
     struct step steps[MOST_STEPS];
     size_t count, start;
     uint16_t number;

@@ -2,10 +2,13 @@
  * memcmp for handles and hashes, memcpy and memset for the rest. It is the bench's yardstick, and what the fuzz target
  * compares the proved agent with. Nothing about it is proved.
  *
- * It is compiled once for each compiler and optimisation level; AGENT names the function.
+ * It is compiled once for each compiler and optimisation level. AGENT names the call; the function that works a tally out
+ * has the same name with _tally after it.
  */
-#include <stddef.h>
-#include <stdint.h>
+#include "cavernlull.h" /* for the tally; nothing else of it is used */
+
+#define JOINED(a, b) a##b
+#define NAMED_AFTER(agent, end) JOINED(agent, end)
 
 #define bool _Bool
 #define true 1
@@ -64,18 +67,48 @@ static bool under(const uint8_t *s, const uint8_t *handle) {
     return place_of(s) != EMPTY && memcmp(s + AT_HANDLE, handle, HANDLE) == 0;
 }
 
-/* The first slot under a handle, from slot `s` on; `end` where there is none. */
-static uint8_t *find(uint8_t *s, const uint8_t *end, const uint8_t *handle) {
+/* The first slot under a handle, from slot `s` on; `end` where there is none. It may be changed where the table may be, as
+ * with strchr. */
+static uint8_t *find(const uint8_t *s, const uint8_t *end, const uint8_t *handle) {
     while (s < end && !under(s, handle)) s += SLOT;
-    return s;
+    return (uint8_t *)s;
 }
 
-static bool well_table(uint8_t *table, uint8_t *end) {
-    for (uint8_t *s = table; s < end; s += SLOT)
-        if (!well_slot(s)) return false;
-    for (uint8_t *s = table; s < end; s += SLOT)
+static bool distinct(const uint8_t *table, const uint8_t *end) {
+    for (const uint8_t *s = table; s < end; s += SLOT)
         if (place_of(s) != EMPTY && find(s + SLOT, end, s + AT_HANDLE) < end) return false;
     return true;
+}
+
+/* ---- tallies (PROFILE 2.8) */
+/* Whether each slot is well formed, and the tally of the table, if so. It is counted in the loop that has read place and length
+ * anyway, with a byte of `slots` for each place. */
+static bool count_well(const uint8_t *table, const uint8_t *end, struct cavernlull_tally *tally) {
+    uint32_t slots = 0, payload = 0;
+    for (const uint8_t *s = table; s < end; s += SLOT) {
+        if (!well_slot(s)) return false;
+        slots += 1u << 8 * place_of(s);
+        payload += place_of(s) >= ENABLED ? word(s + AT_LENGTH) : 0;
+    }
+    *tally = (struct cavernlull_tally){slots & 255, slots >> 8 & 255, slots >> 16 & 255, slots >> 24, (uint16_t)payload};
+    return true;
+}
+
+static bool same_tally(const struct cavernlull_tally *a, const struct cavernlull_tally *b) {
+    return a->empty == b->empty && a->reserved == b->reserved && a->enabled == b->enabled && a->disabled == b->disabled &&
+           a->payload == b->payload;
+}
+
+/* Brings a tally up to date for a record that is cleared. */
+static void take_off(struct cavernlull_tally *t, const uint8_t *s) {
+    t->empty++;
+    if (place_of(s) == RESERVED) {
+        t->reserved--;
+        return;
+    }
+    if (place_of(s) == ENABLED) t->enabled--;
+    else t->disabled--;
+    t->payload = (uint16_t)(t->payload - word(s + AT_LENGTH));
 }
 
 /* ---- requests */
@@ -130,10 +163,11 @@ static size_t put_right(uint8_t *body, const uint8_t *s) {
     return 19 + hashes + length;
 }
 
-/* ---- what each kind does: it gives a status and, at success, sets the length of the body that it wrote, and the count's bit
- * of the reply */
+/* ---- what each kind does: it gives a status and, at success, brings the tally up to date and sets the length of the body
+ * that it wrote, and the count's bit of the reply */
 struct call {
     uint8_t *table, *start, *end, *reply;
+    struct cavernlull_tally *tally;
     const uint8_t *body;
     size_t n, given;
     unsigned kept, told;
@@ -155,6 +189,8 @@ static unsigned set_up(struct call *c) {
     s[0] = RESERVED << 6;
     memcpy(s + AT_HANDLE, c->body, HANDLE);
     put_word(s + AT_LENGTH, length);
+    c->tally->empty--;
+    c->tally->reserved++;
     return SUCCESS;
 }
 
@@ -168,6 +204,9 @@ static unsigned install(struct call *c, uint8_t *s) {
     put_word(s + AT_LENGTH, (unsigned)length);
     memcpy(s + AT_HASHES, c->body + 29, HASH * hashes);
     memcpy(s + AT_PAYLOAD, c->body + 29 + HASH * hashes, length);
+    c->tally->reserved--;
+    c->tally->enabled++;
+    c->tally->payload = (uint16_t)(c->tally->payload + length);
     return SUCCESS;
 }
 
@@ -183,6 +222,8 @@ static unsigned lend(struct call *c, uint8_t *s, bool whole) {
     }
     s[0] |= DISABLED << 6;
     memcpy(s + AT_HANDLE, c->body + HANDLE, HANDLE);
+    c->tally->enabled--;
+    c->tally->disabled++;
     return SUCCESS;
 }
 
@@ -191,12 +232,15 @@ static unsigned enable(struct call *c, uint8_t *s) {
     if (place_of(s) == DISABLED) {
         s[0] = (uint8_t)(ENABLED << 6 | hashes_of(s) << 2 | c->kept);
         memcpy(s + AT_COUNT, c->body + HANDLE, 2);
+        c->tally->disabled--;
+        c->tally->enabled++;
     }
     return SUCCESS;
 }
 
-static unsigned clear(uint8_t *s, bool reserved) {
+static unsigned clear(struct call *c, uint8_t *s, bool reserved) {
     if ((place_of(s) == RESERVED) != reserved) return UNEXPECTED;
+    take_off(c->tally, s);
     memset(s, 0, SLOT);
     return SUCCESS;
 }
@@ -240,21 +284,35 @@ static unsigned serve(struct call *c, unsigned kind) {
     case 3: return lend(c, s, true);
     case 4: return lend(c, s, false);
     case 5: return enable(c, s);
-    case 6: return clear(s, false);
-    case 7: return clear(s, true);
+    case 6: return clear(c, s, false);
+    case 7: return clear(c, s, true);
     default: return inform(c, s);
     }
 }
 
-uint16_t AGENT(uint8_t *table, size_t size, size_t start, const uint8_t *frame, size_t n, uint8_t *reply, size_t room) {
+/* ---- the two functions */
+static bool whole_slots(size_t size) { return size != 0 && size % SLOT == 0 && size <= SLOTS * SLOT; }
+
+uint16_t AGENT(uint8_t *table, size_t size, struct cavernlull_tally *tally, size_t start, const uint8_t *frame, size_t n,
+               uint8_t *reply, size_t room) {
     if (room < REPLY) return 101;
-    if (size == 0 || size % SLOT != 0 || size > SLOTS * SLOT) return 102;
+    if (!whole_slots(size)) return 102;
     if (start >= size / SLOT) return 105;
-    if (!well_table(table, table + size)) return 103;
+    struct cavernlull_tally fresh;
+    if (!count_well(table, table + size, &fresh) || !distinct(table, table + size)) return 103;
+    if (!same_tally(tally, &fresh)) return 106;
     if (n < 4 || n - 4 != word(frame + 2)) return 104;
-    struct call c = {table, table + SLOT * start, table + size, reply, frame + 4, n - 4, 0, kept_asked(frame), 0};
+    struct call c = {table, table + SLOT * start, table + size, reply, tally, frame + 4, n - 4, 0, kept_asked(frame), 0};
     unsigned status = request_status(frame, n);
     if (status == SUCCESS) status = serve(&c, frame[0] & 31);
     reply_head(reply, frame[0] & 31, status | c.told, status == SUCCESS ? c.given : 0);
+    return 0;
+}
+
+uint16_t NAMED_AFTER(AGENT, _tally)(const uint8_t *table, size_t size, struct cavernlull_tally *tally) {
+    if (!whole_slots(size)) return 102;
+    struct cavernlull_tally fresh;
+    if (!count_well(table, table + size, &fresh) || !distinct(table, table + size)) return 103;
+    *tally = fresh;
     return 0;
 }

@@ -7,15 +7,23 @@
 mod requests;
 mod rights;
 mod slots;
+mod tally;
 
 use requests::Status;
+pub use tally::Tally;
 
 /// The shortest reply buffer.
 const REPLY: usize = 4279;
 
-/// One call: gives the number, writes the reply and changes the table. A setup
-/// begins to look for an empty slot at `start`.
-pub fn call(table: &mut [u8], start: usize, frame: &[u8], reply: &mut [u8]) -> u16 {
+/// One call: gives the number, writes the reply, changes the table and brings its
+/// tally up to date. A setup begins to look for an empty slot at `start`.
+pub fn call(
+    table: &mut [u8],
+    tally: &mut Tally,
+    start: usize,
+    frame: &[u8],
+    reply: &mut [u8],
+) -> u16 {
     let Some(reply) = reply.first_chunk_mut::<REPLY>() else {
         return 101;
     };
@@ -25,15 +33,18 @@ pub fn call(table: &mut [u8], start: usize, frame: &[u8], reply: &mut [u8]) -> u
     if start >= slots.len() {
         return 105;
     }
-    if !slots::well(slots) {
+    let Some(fresh) = Tally::of(slots).filter(|_| slots::distinct(slots)) else {
         return 103;
+    };
+    if *tally != fresh {
+        return 106;
     }
     let Some((head, body)) = requests::split(frame) else {
         return 104;
     };
     let kind = head[0] & 31;
-    let answer =
-        requests::test(head, body).and_then(|()| rights::serve(slots, start, head, body, reply));
+    let answer = requests::test(head, body)
+        .and_then(|()| rights::serve(slots, tally, start, head, body, reply));
     let (status, length) = match answer {
         Ok(given) => (given.kept, given.length),
         Err(status) => (status as u8, 0),
@@ -65,11 +76,13 @@ type Answer = Result<Given, Status>;
 /// # Safety
 ///
 /// Each pointer and its length must describe memory that the call may use:
-/// `table` and `reply` to read and write, `frame` to read.
+/// `table` and `reply` to read and write, `frame` to read. `tally` must point to
+/// a tally that the call may read and write.
 #[no_mangle]
 pub unsafe extern "C" fn rust_call(
     table: *mut u8,
     table_length: usize,
+    tally: *mut Tally,
     start: usize,
     frame: *const u8,
     frame_length: usize,
@@ -77,12 +90,13 @@ pub unsafe extern "C" fn rust_call(
     reply_length: usize,
 ) -> u16 {
     // SAFETY: the caller promises it.
-    let (table, frame, reply) = unsafe {
+    let (table, tally, frame, reply) = unsafe {
         (
             std::slice::from_raw_parts_mut(table, table_length),
+            &mut *tally,
             std::slice::from_raw_parts(frame, frame_length),
             std::slice::from_raw_parts_mut(reply, reply_length),
         )
     };
-    call(table, start, frame, reply)
+    call(table, tally, start, frame, reply)
 }

@@ -6,15 +6,17 @@ use crate::slots::{
     AT_COUNT, AT_HASHES, AT_KEY, AT_LENGTH, AT_PAYLOAD, HANDLE, HASH, PAYLOAD, SLOT, SLOTS,
 };
 use crate::slots::{DISABLED, EMPTY, ENABLED, RESERVED};
+use crate::tally::Tally;
 use crate::{Answer, Given, REPLY};
 
 /// The part of a reply buffer that a reply can take.
 type Reply = [u8; REPLY];
 
-/// Carries out a request that passed its tests, and writes its reply's body
-/// into the buffer, after the head.
+/// Carries out a request that passed its tests, brings the tally up to date and
+/// writes the reply's body into the buffer, after the head.
 pub fn serve(
     slots: &mut [Slot],
+    tally: &mut Tally,
     start: usize,
     head: &[u8; 4],
     body: &[u8],
@@ -22,16 +24,16 @@ pub fn serve(
 ) -> Answer {
     let kind = head[0] & 31;
     match kind {
-        1 => return set_up(slots, start, body),
+        1 => return set_up(slots, tally, start, body),
         8 => return list(slots, body, reply),
         _ => {}
     }
     let at = find(slots, first(body)).ok_or(Status::NotFound)?;
     match kind {
-        2 => install(&mut slots[at], kept_asked(head), body),
-        3 | 4 => lend(slots, at, second(body), kind == 3, reply),
-        5 => enable(&mut slots[at], kept_asked(head), body),
-        6 | 7 => clear(&mut slots[at], kind == 7),
+        2 => install(&mut slots[at], tally, kept_asked(head), body),
+        3 | 4 => lend(slots, tally, at, second(body), kind == 3, reply),
+        5 => enable(&mut slots[at], tally, kept_asked(head), body),
+        6 | 7 => clear(&mut slots[at], tally, kind == 7),
         _ => inform(&slots[at], reply),
     }
 }
@@ -54,7 +56,7 @@ fn kept_told(s: &Slot) -> u8 {
     (s[0] & slots::KEPT) << 6
 }
 
-fn set_up(slots: &mut [Slot], start: usize, body: &[u8]) -> Answer {
+fn set_up(slots: &mut [Slot], tally: &mut Tally, start: usize, body: &[u8]) -> Answer {
     let room = u16::from_be_bytes([body[10], body[11]]);
     if room == 0 {
         return Err(Status::Parameter);
@@ -72,10 +74,11 @@ fn set_up(slots: &mut [Slot], start: usize, body: &[u8]) -> Answer {
     s[0] = RESERVED << 6;
     s[1..AT_KEY].copy_from_slice(first(body));
     s[AT_LENGTH..AT_HASHES].copy_from_slice(&body[10..12]);
+    tally.moved(EMPTY, RESERVED);
     Ok(Given::body(0))
 }
 
-fn install(s: &mut Slot, kept: u8, body: &[u8]) -> Answer {
+fn install(s: &mut Slot, tally: &mut Tally, kept: u8, body: &[u8]) -> Answer {
     let (fields, content) = body.split_at(29);
     let (hashes, payload) = content.split_at(HASH * usize::from(fields[28] >> 4));
     if place(s) != RESERVED {
@@ -89,10 +92,19 @@ fn install(s: &mut Slot, kept: u8, body: &[u8]) -> Answer {
     s[AT_LENGTH..AT_HASHES].copy_from_slice(&(payload.len() as u16).to_be_bytes());
     s[AT_HASHES..][..hashes.len()].copy_from_slice(hashes);
     s[AT_PAYLOAD..][..payload.len()].copy_from_slice(payload);
+    tally.moved(RESERVED, ENABLED);
+    tally.payload += payload.len() as u16;
     Ok(Given::body(0))
 }
 
-fn lend(slots: &mut [Slot], at: usize, new: &Handle, whole: bool, reply: &mut Reply) -> Answer {
+fn lend(
+    slots: &mut [Slot],
+    tally: &mut Tally,
+    at: usize,
+    new: &Handle,
+    whole: bool,
+    reply: &mut Reply,
+) -> Answer {
     if place(&slots[at]) != ENABLED {
         return Err(Status::Unexpected);
     }
@@ -107,6 +119,7 @@ fn lend(slots: &mut [Slot], at: usize, new: &Handle, whole: bool, reply: &mut Re
     };
     s[0] |= DISABLED << 6;
     s[1..AT_KEY].copy_from_slice(new);
+    tally.moved(ENABLED, DISABLED);
     Ok(given)
 }
 
@@ -127,21 +140,26 @@ fn put_right(s: &Slot, reply: &mut Reply) -> Given {
     }
 }
 
-fn enable(s: &mut Slot, kept: u8, body: &[u8]) -> Answer {
+fn enable(s: &mut Slot, tally: &mut Tally, kept: u8, body: &[u8]) -> Answer {
     match place(s) {
         RESERVED => return Err(Status::Unexpected),
         DISABLED => {
             s[0] = ENABLED << 6 | (hashes(s) as u8) << 2 | kept;
             s[AT_COUNT..AT_LENGTH].copy_from_slice(&body[10..12]);
+            tally.moved(DISABLED, ENABLED);
         }
         _ => {}
     }
     Ok(Given::body(0))
 }
 
-fn clear(s: &mut Slot, reserved: bool) -> Answer {
+fn clear(s: &mut Slot, tally: &mut Tally, reserved: bool) -> Answer {
     if (place(s) == RESERVED) != reserved {
         return Err(Status::Unexpected);
+    }
+    tally.moved(place(s), EMPTY);
+    if !reserved {
+        tally.payload -= length(s) as u16;
     }
     *s = [0; SLOT];
     Ok(Given::body(0))

@@ -1,4 +1,4 @@
-//! Slots, and when a table of them is well formed.
+//! Slots, and when one is well formed.
 
 /// Sizes in bytes: a slot, a handle, a hash, and the longest payload.
 pub const SLOT: usize = 4288;
@@ -57,12 +57,8 @@ pub fn handle(s: &Slot) -> &Handle {
     s[1..].first_chunk().expect("a slot is longer")
 }
 
-/// Whether a table's slots are well formed, and no two have the same handle.
-pub fn well(slots: &[Slot]) -> bool {
-    slots.iter().all(well_slot) && distinct(slots)
-}
-
-fn distinct(slots: &[Slot]) -> bool {
+/// Whether no two slots have the same handle.
+pub fn distinct(slots: &[Slot]) -> bool {
     (0..slots.len())
         .all(|i| place(&slots[i]) == EMPTY || find(&slots[i + 1..], handle(&slots[i])).is_none())
 }
@@ -74,7 +70,7 @@ pub fn find(slots: &[Slot], wanted: &Handle) -> Option<usize> {
         .position(|s| place(s) != EMPTY && handle(s) == wanted)
 }
 
-fn well_slot(s: &Slot) -> bool {
+pub fn well_slot(s: &Slot) -> bool {
     let (hashes, length) = (hashes(s), length(s));
     match place(s) {
         EMPTY => all_zero(s),
