@@ -1,9 +1,9 @@
 /* A coverage-guided fuzz target for the exported functions. An input is a program: the length of the table, and then what is
- * done with it: requests of every kind and frames of any bytes, each from a start, changes to bytes of the table, and
- * turnings. After each call the number, the reply buffer and the table must be those of the agent in C
- * (counterparts/c/agent.c); after each turning, number and table must be those of the turning below; every request that is
- * written must have the kind and the count's bit asked for, and the verdict 1; and every reply must be one that the reply
- * reader takes.
+ * done with it: requests of every kind and frames of any bytes, each with a tally and from a start, changes to the table,
+ * turnings, and tallies worked out. After each call the number, the reply buffer, the table and the tally must be those of
+ * the agent in C (counterparts/c/agent.c), and so must a tally that is worked out; after each turning, number and table must
+ * be those of the turning below; every request that is written must have the kind and the count's bit asked for, and the
+ * verdict 1; and every reply must be one that the reply reader takes.
  *
  * All memory is lent in allocations of exactly its length, so that the address sanitiser sees any access outside it.
  */
@@ -13,7 +13,8 @@
 
 #include "cavernlull.h"
 
-uint16_t c_agent(uint8_t *, size_t, size_t, const uint8_t *, size_t, uint8_t *, size_t);
+uint16_t c_agent(uint8_t *, size_t, struct cavernlull_tally *, size_t, const uint8_t *, size_t, uint8_t *, size_t);
+uint16_t c_agent_tally(const uint8_t *, size_t, struct cavernlull_tally *);
 
 enum { SLOT = CAVERNLULL_SLOT_BYTES, HANDLE = CAVERNLULL_HANDLE_BYTES, HASH = CAVERNLULL_HASH_BYTES };
 
@@ -54,10 +55,49 @@ static void same(const void *a, const void *b, size_t length) {
     if (memcmp(a, b, length) != 0) abort();
 }
 
-/* ---- the table, and an equal one lent to the agent in C */
+/* ---- the table, and an equal one lent to the agent in C; and the tally kept beside them, which a change to the table can
+ * make a wrong one */
 struct tables {
     uint8_t *ours, *theirs;
     size_t length;
+    struct cavernlull_tally tally;
+};
+
+/* ---- tallies */
+static struct cavernlull_tally *lent_tally(const struct cavernlull_tally *tally) {
+    void *lent_bytes = lent(sizeof *tally, 0);
+    return memcpy(lent_bytes, tally, sizeof *tally);
+}
+
+/* The tally that is kept, as a rule, else one that has another number: one more, one less, or any. */
+static struct cavernlull_tally take_tally(struct input *in, const struct tables *t) {
+    struct cavernlull_tally tally = t->tally;
+    uint16_t *numbers[] = {&tally.empty, &tally.reserved, &tally.enabled, &tally.disabled, &tally.payload};
+    uint8_t how = take(in);
+    uint16_t *number = numbers[how % 5];
+    if (how >= 250) *number = take_word(in);
+    else if (how >= 235) ++*number;
+    else if (how >= 220) --*number;
+    return tally;
+}
+
+/* Works the tally out, which is kept from then on; where there is none, the five numbers are still what they were. */
+static void work_out(struct tables *t) {
+    struct cavernlull_tally *ours = lent_tally(&t->tally), *theirs = lent_tally(&t->tally);
+    uint16_t number = cavernlull_tally(t->ours, t->length, ours);
+    if (number != c_agent_tally(t->theirs, t->length, theirs)) abort();
+    same(ours, theirs, sizeof *ours);
+    if (number != 0) same(ours, &t->tally, sizeof *ours);
+    same(t->ours, t->theirs, t->length);
+    t->tally = *ours;
+    free(ours);
+    free(theirs);
+}
+
+/* ---- calls */
+struct beside {
+    struct cavernlull_tally tally;
+    size_t start;
 };
 
 /* A start: a slot of the table as a rule, else a number up to 15, or one with its low bits or its high bits 0. */
@@ -68,24 +108,39 @@ static size_t take_start(struct input *in, const struct tables *t) {
     return (size_t)take_word(in) << 4 * (how - 240);
 }
 
-static uint16_t call(struct tables *t, size_t start, const uint8_t *bytes, size_t length, size_t room) {
+/* What a call is handed beside table, frame and reply buffer. */
+static struct beside take_beside(struct input *in, const struct tables *t) {
+    struct beside b = {take_tally(in, t), 0};
+    b.start = take_start(in, t);
+    return b;
+}
+
+static void must_read(const uint8_t *reply) {
+    uint8_t key[CAVERNLULL_KEY_BYTES];
+    uint16_t fields[CAVERNLULL_REPLY_NUMBERS];
+    if (cavernlull_read_reply(reply, 4 + (size_t)(reply[2] << 8 | reply[3]), key, fields) != 0) abort();
+    if (fields[CAVERNLULL_REPLY_STATUS] != (reply[1] & 127)) abort();
+    if (fields[CAVERNLULL_REPLY_KEPT] != reply[1] >> 7) abort();
+}
+
+static void call(struct tables *t, const struct beside *b, const uint8_t *bytes, size_t length, size_t room) {
     uint8_t *frame = lent(length, 0), *reply = lent(room, 0xa5), *other = lent(room, 0xa5);
+    struct cavernlull_tally *ours = lent_tally(&b->tally), *theirs = lent_tally(&b->tally);
     if (length) memcpy(frame, bytes, length);
-    uint16_t number = cavernlull_call(t->ours, t->length, start, frame, length, reply, room);
-    if (number != c_agent(t->theirs, t->length, start, frame, length, other, room)) abort();
+    uint16_t number = cavernlull_call(t->ours, t->length, ours, b->start, frame, length, reply, room);
+    if (number != c_agent(t->theirs, t->length, theirs, b->start, frame, length, other, room)) abort();
     same(reply, other, room);
     same(t->ours, t->theirs, t->length);
+    same(ours, theirs, sizeof *ours);
     if (number == 0) {
-        uint8_t key[CAVERNLULL_KEY_BYTES];
-        uint16_t fields[CAVERNLULL_REPLY_NUMBERS];
-        if (cavernlull_read_reply(reply, 4 + (size_t)(reply[2] << 8 | reply[3]), key, fields) != 0) abort();
-        if (fields[CAVERNLULL_REPLY_STATUS] != (reply[1] & 127)) abort();
-        if (fields[CAVERNLULL_REPLY_KEPT] != reply[1] >> 7) abort();
-    }
+        must_read(reply);
+        t->tally = *ours;
+    } else same(ours, &b->tally, sizeof *ours);
     free(frame);
     free(reply);
     free(other);
-    return number;
+    free(ours);
+    free(theirs);
 }
 
 /* ---- the turning, written plainly */
@@ -126,17 +181,18 @@ static uint16_t plain_turn(uint8_t *table, size_t length) {
 
 /* ---- what an input can do */
 static void any_frame(struct input *in, struct tables *t) {
-    size_t start = take_start(in, t), length = take(in);
+    struct beside b = take_beside(in, t);
+    size_t length = take(in);
     if (length > in->left) length = in->left;
-    call(t, start, in->at, length, CAVERNLULL_REPLY_ROOM);
+    call(t, &b, in->at, length, CAVERNLULL_REPLY_ROOM);
     in->at += length;
     in->left -= length;
 }
 
 /* The input itself as a frame, and a reply buffer of any length. */
 static void whole_input(struct input *in, struct tables *t, const uint8_t *bytes, size_t length) {
-    size_t start = take_start(in, t), room = take_length(in);
-    call(t, start, bytes, length, room);
+    struct beside b = take_beside(in, t);
+    call(t, &b, bytes, length, take_length(in));
 }
 
 /* The fields of a request; those that its kind lacks stay blank. */
@@ -172,13 +228,27 @@ static void request(struct input *in, struct tables *t, unsigned kind) {
                                  payload, f.payload, out, sizeof out) != 0) return;
     if (f.kept > 1 || (f.count != 0 && f.kept == 0)) abort();
     if ((out[0] & 31) != kind || out[1] != (f.kept ? 0x80 | CAVERNLULL_KEPT_IN_REQUEST : 0x80)) abort();
-    call(t, take_start(in, t), out, 4 + (size_t)(out[2] << 8 | out[3]), CAVERNLULL_REPLY_ROOM + (names & 1));
+    struct beside b = take_beside(in, t);
+    call(t, &b, out, 4 + (size_t)(out[2] << 8 | out[3]), CAVERNLULL_REPLY_ROOM + (names & 1));
 }
 
-/* Changes a byte of the table: one that a rule is about, or any. */
+/* Gives a slot the handle of another one. */
+static void copy_handle(struct tables *t, size_t to, size_t from) {
+    size_t slots = t->length / SLOT;
+    if (slots == 0) return;
+    size_t at = to % slots * SLOT + 1, other = from % slots * SLOT + 1;
+    memmove(t->ours + at, t->ours + other, HANDLE);
+    memmove(t->theirs + at, t->theirs + other, HANDLE);
+}
+
+/* Changes the table: a handle, a byte that a rule is about, or any byte. */
 static void change(struct input *in, struct tables *t) {
     static const uint16_t offsets[] = {0, 1, 10, 11, 27, 28, 29, 30, 31, 50, 51, 190, 191, 192, 4286, 4287};
     size_t slot = take(in) % 16, where = take(in), at = slot * SLOT;
+    if (where >= 128) {
+        copy_handle(t, slot, where);
+        return;
+    }
     at += where < sizeof offsets / sizeof offsets[0] ? offsets[where] : take_word(in) % SLOT;
     uint8_t byte = take(in);
     if (at < t->length) t->ours[at] = t->theirs[at] = byte;
@@ -219,7 +289,7 @@ int LLVMFuzzerTestOneInput(const uint8_t *bytes, size_t length) {
     struct input in = {bytes, length};
     uint8_t slots = take(&in);
     size_t size = (size_t)(slots & 15) * SLOT + (slots >> 4 == 15 ? take(&in) : 0);
-    struct tables t = {lent(size, 0), lent(size, 0), size};
+    struct tables t = {lent(size, 0), lent(size, 0), size, {(uint16_t)(size / SLOT), 0, 0, 0, 0}};
     for (unsigned steps = 0; in.left > 0 && steps < 64; steps++) {
         uint8_t what = take(&in) & 15;
         if (what >= 1 && what <= 9) request(&in, &t, what);
@@ -228,6 +298,7 @@ int LLVMFuzzerTestOneInput(const uint8_t *bytes, size_t length) {
         else if (what == 12) any_reply(&in);
         else if (what == 13) whole_input(&in, &t, bytes, length);
         else if (what == 14) turn(&in, &t);
+        else if (what == 15) work_out(&t);
         else any_frame(&in, &t);
     }
     free(t.ours);
