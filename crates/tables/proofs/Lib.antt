@@ -1,7 +1,7 @@
 -- the table, slot by slot
 pub mod SlotParts
 pub mod Turns
-pub mod Backward
+pub mod Marking
 pub mod Searching
 pub mod WellTables
 -- looking up

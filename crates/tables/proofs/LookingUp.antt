@@ -6,7 +6,9 @@ use mathlib.Core.Option.{some}
 use mathlib.Core.Bool.{Bool, true, false, true≢false}
 use native.Mathlib.Omega.{arith}
 use native.Mathlib.Nat.{zero-add, not-suc-le-zero, le-of-suc-le-suc}
-use lib.ListN.{length, getD, getElem?}
+use borrow.Author.Tests.{lt-ltb, le-ltb}
+use lib.Dec.{ltb}
+use lib.ListN.{length, getD, getElem?, drop, length-drop}
 use Rattle.profile.specs.Bytes.{Bytes, part, same}
 use Rattle.profile.specs.Slot.{Entry, Slot, empty, taken, named, inUse}
 use Rattle.profile.specs.Table.{placeOf, unpack, slotCount, slotsOf}
@@ -22,7 +24,14 @@ use Rattle.slots.proofs.Unpacking.{place-of-entry}
 use Rattle.tables.proofs.SlotParts.{length-slots, unpacked-at}
 
 -- ---- in use: the first slot under the handle is one of the slots
-first-some : (h : Bytes) (t : List Slot) → inUse h t ≡ true → firstUnder h t < length t
+pub first-none : (h : Bytes) (t : List Slot) → inUse h t ≡ false → firstUnder h t ≡ length t
+unfolding firstUnder
+first-none h [] e = refl
+first-none h (s ∷ t) e =
+    let p = or-parts (named h s) (inUse h t) e in
+    rw (p .0) (ap suc (first-none h t (p .1)))
+
+pub first-some : (h : Bytes) (t : List Slot) → inUse h t ≡ true → firstUnder h t < length t
 unfolding firstUnder
 first-some h [] e = absurd (true≢false (sym e))
 first-some h (s ∷ t) e = go (named h s) refl (first-some h t)
@@ -30,6 +39,13 @@ first-some h (s ∷ t) e = go (named h s) refl (first-some h t)
     go : (b : Bool) → named h s ≡ b → (inUse h t ≡ true → firstUnder h t < length t) → firstUnder h (s ∷ t) < length (s ∷ t)
     go true q ih = rw q (omega arith)
     go false q ih = let below : firstUnder h t < length t = ih (rw q at e) in rw q (omega arith)
+
+pub in-use-below : (h : Bytes) (t : List Slot) (from n : ℕ) → from + length t ≡ n → ltb (from + firstUnder h t) n ≡ inUse h t
+in-use-below h t from n e = go (inUse h t) refl
+  where
+    go : (b : Bool) → inUse h t ≡ b → ltb (from + firstUnder h t) n ≡ b
+    go true q = lt-ltb (from + firstUnder h t) n (omega (arith, first-some h t q))
+    go false q = le-ltb (from + firstUnder h t) n (omega (arith, first-none h t q))
 
 -- ---- the first slot under the handle is the one found
 pub first-found : (h : Bytes) (t : List Slot) → firstUnder h t < length t → (e : Entry) × (find h t ≡ one (firstUnder h t) e)
@@ -80,11 +96,17 @@ module _ (h : Bytes) (t : List Slot) (i : ℕ) (first : i ≡ firstUnder h t) wh
       rw (here .1) (ap (At i) (sym (place (here .0) (found-stands h t i (here .0) d (here .1) .there))))
 
 -- ---- over a table's bytes
-module _ (t h : Bytes) (i : ℕ) (first : i ≡ 0 + firstUnder h (slotsOf t)) where
-  pub answers-absent : slotCount t ≤ i → foundAt (find h (slotsOf t)) ≡ Absent
-  answers-absent l = looks-absent h (slotsOf t) i (first ∙ zero-add _) (rw (length-slots t) l)
+module _ (t h : Bytes) where
+  pub in-use-from : (from i : ℕ) → from ≤ slotCount t → i ≡ from + firstUnder h (drop from (slotsOf t)) → ltb i (slotCount t) ≡ inUse h (drop from (slotsOf t))
+  in-use-from from i l e =
+      rw e
+      (in-use-below h (drop from (slotsOf t)) from (slotCount t) (rw (length-drop from (slotsOf t), length-slots t) (omega arith)))
 
-  pub answers-at : i < slotCount t → (s : Bytes) (p : Place) → s ≡ part (4288 * i) 4288 t → placeNumber p ≡ placeOf s → foundAt (find h (slotsOf t)) ≡ At i p
-  answers-at below s p e n =
-      looks-at h (slotsOf t) i (first ∙ zero-add _) (rw (length-slots t) below) (unpack []) p
-      (λ x there. place-of-entry s p h x n (rw e (sym (unpacked-at t i below) ∙ there)))
+  module _ (i : ℕ) (first : i ≡ 0 + firstUnder h (slotsOf t)) where
+    pub answers-absent : slotCount t ≤ i → foundAt (find h (slotsOf t)) ≡ Absent
+    answers-absent l = looks-absent h (slotsOf t) i (first ∙ zero-add _) (rw (length-slots t) l)
+
+    pub answers-at : i < slotCount t → (s : Bytes) (p : Place) → s ≡ part (4288 * i) 4288 t → placeNumber p ≡ placeOf s → foundAt (find h (slotsOf t)) ≡ At i p
+    answers-at below s p e n =
+        looks-at h (slotsOf t) i (first ∙ zero-add _) (rw (length-slots t) below) (unpack []) p
+        (λ x there. place-of-entry s p h x n (rw e (sym (unpacked-at t i below) ∙ there)))

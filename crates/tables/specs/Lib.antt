@@ -1,3 +1,4 @@
 pub mod Again
 pub mod Judged
 pub mod LookUp
+pub mod Marks

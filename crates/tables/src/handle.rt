@@ -42,21 +42,12 @@ pub(crate) fn first_under(t: &[u8], h: &[u8], from: usize) -> usize
     n
 }
 
-// Whether a handle is in use in the slots from `from` on. A full table takes a turn of this loop for each pair of its slots: it goes from
-// the last one back, by offsets, so that one number is all that changes from turn to turn.
+// Whether a handle is in use in the slots from `from` on.
 pub(crate) fn in_use_from(t: &[u8], h: &[u8], from: usize) -> bool
     requires { ⌜ (length (now h) ≡ handleSize) × (from ≤ slotCount (now t)) ⌝ }
     ensures { λ r. ⌜ r ≡ inUse (now (h .entry)) (drop from (slotsOf (now (t .entry)))) ⌝ }
 {
-    let rest = &t[SLOT_BYTES * from..];
-    let mut end = SLOT_BYTES * (rest.len() / SLOT_BYTES);
-    while 0 < end {
-        if is_under(&rest[end - SLOT_BYTES..end], h) {
-            return true;
-        }
-        end -= SLOT_BYTES;
-    }
-    false
+    first_under(t, h, from) < t.len() / SLOT_BYTES
 }
 
 // Whether any slot that is not empty has the handle, whatever its place: status 5 (PROFILE 4.2).

@@ -1,7 +1,9 @@
--- `tables::table::stands_again` meets its contract: an empty slot has no handle, and any other's is looked for in the slots after it. Assumes nothing.
+-- `tables::table::stands_again` meets its contract: an empty slot has no handle, one whose mark stands once stands once, and any other's
+-- is looked for in the slots after it. Assumes nothing.
 use denote.Ref.{now}
 use mathlib.Core.Path.{sym, _∙_}
 use Rattle.tables.proofs.Turns.{again-empty, again-taken}
+use Rattle.tables.proofs.Marking.{mark-once}
 use borrow.Author.Needs.{needs}
 use Rattle.tables.proofs.table.stands_again.Statement.{statement}
 use Rattle.tables.proofs.table.stands_again.Tie as tie
@@ -17,8 +19,28 @@ slot-place-requires c κs = search needs
 
 returns : tie.Need-returns
 returns c =
-    let a = c .before .before .before .before .before in
-    sym (again-empty (now (a .args .t)) (a .args .i) (a .pre) _ (c .before .before .before .slot-at .ensures .0) (sym (c .before .slot-place .ensures) ∙ c .if1 .taken))
+    let lent = c .before .before .before in
+    let a = lent .before .before .before in
+    sym (again-empty (now (a .args .t)) (a .args .i) (a .pre .0) _ (lent .slot-at .ensures .0) (sym (c .before .slot-place .ensures) ∙ c .if1 .taken))
+
+mark-of-requires : tie.Need-mark-of-requires
+mark-of-requires c κs = search needs
+
+times-requires : tie.Need-times-requires
+times-requires c κs = search needs
+
+returns-2 : tie.Need-returns-2
+returns-2 c =
+    let marked = c .before .before in
+    let tested = marked .before in
+    let lent = tested .before .before .before in
+    let a = lent .before .before .before in
+    sym
+    (mark-once (now (a .args .t)) (now (a .args .marks)) (a .args .i) (a .pre .0) _ (lent .slot-at .ensures .0) (a .pre .1) (c .before .times .result) (marked .mark-of .result)
+    (marked .mark-of .ensures)
+    (c .before .times .ensures)
+    (c .if2 .taken)
+    (λ e. tested .if1 .left (tested .before .slot-place .ensures ∙ e)))
 
 sub-in-use-from : tie.Need-sub-in-use-from
 sub-in-use-from c = search needs
@@ -35,13 +57,13 @@ add-in-use-from c = search needs
 in-use-from-requires : tie.Need-in-use-from-requires
 in-use-from-requires c κs = search needs
 
-returns-2 : tie.Need-returns-2
-returns-2 c =
-    let tested = c .before .before in
+returns-3 : tie.Need-returns-3
+returns-3 c =
+    let tested = c .before .before .before .before .before in
     let lent = tested .before .before .before in
-    let a = lent .before .before in
+    let a = lent .before .before .before in
     c .in-use-from .ensures
-    ∙ sym (again-taken (now (a .args .t)) (a .args .i) (a .pre) _ (lent .slot-at .ensures .0) (λ e. tested .if1 .left (tested .before .slot-place .ensures ∙ e)))
+    ∙ sym (again-taken (now (a .args .t)) (a .args .i) (a .pre .0) _ (lent .slot-at .ensures .0) (λ e. tested .if1 .left (tested .before .slot-place .ensures ∙ e)))
 
 pub stands-again-spec : {M : Type 1} → statement M
 stands-again-spec =
@@ -51,9 +73,12 @@ stands-again-spec =
     shared-slice-read-slot-place
     slot-place-requires
     returns
+    mark-of-requires
+    times-requires
+    returns-2
     sub-in-use-from
     part-in-use-from-start
     part-in-use-from-end
     add-in-use-from
     in-use-from-requires
-    returns-2)
+    returns-3)
