@@ -36,7 +36,7 @@ zero-block-requires c κs = search needs
 returns : tie.Need-returns Inv-loop μ-loop
 returns c =
     let l = c .before .before .before .before in
-    sym (l .loop .inv ∙ zero-stop (l .loop .rest .now) 0 512 (sym (c .before .zero-block .ensures) ∙ not-true (c .before .zero-block .result) (c .if1 .taken)))
+    sym (l .loop .inv ∙ zero-stop (l .loop .rest .now) 0 1024 (sym (c .before .zero-block .ensures) ∙ not-true (c .before .zero-block .result) (c .if1 .taken)))
 
 sub-rest : tie.Need-sub-rest Inv-loop μ-loop
 sub-rest c = search needs
@@ -55,8 +55,8 @@ loop-again c =
     let l = c .before .before .before .before .before in
     let rest = l .loop .rest .now in
     l .loop .inv
-    ∙ zero-pass rest 0 512 (omega arith) (sym (c .before .before .zero-block .ensures) ∙ not-false (c .before .before .zero-block .result) (c .before .if1 .left))
-    ∙ sym (zero-last rest 512)
+    ∙ zero-pass rest 0 1024 (omega arith) (sym (c .before .before .zero-block .ensures) ∙ not-false (c .before .before .zero-block .result) (c .before .if1 .left))
+    ∙ sym (zero-last rest 1024)
 
 zero-block-requires-2 : tie.Need-zero-block-requires-2 Inv-loop μ-loop
 zero-block-requires-2 c κs = search needs
