@@ -2,11 +2,12 @@
 use Prim.Native.Nat.{ℕ, zero, suc, _+_, _*_, _≤_, _<_, _/_, _%_}
 use mathlib.Core.Path.{_≡_, refl, sym, ap, _∙_}
 use mathlib.Core.List.{List, [], _∷_}
-use mathlib.Core.Bool.{true}
+use mathlib.Core.Bool.{Bool, true, false}
 use native.Mathlib.Omega.{arith}
-use lib.Bits.{bitAnd, and-zero-r, and-le-l, and-mask}
+use borrow.Author.Tests.{lt-ltb, le-ltb}
+use lib.Dec.{ltb}
 use lib.ListN.{length, getD, drop, length-take, length-drop}
-use Rattle.profile.specs.Bytes.{Bytes, part, word}
+use Rattle.profile.specs.Bytes.{Bytes, part, word, if_then_else_}
 use Rattle.profile.specs.Table.{placeOf, rightOf, unpack, wellSlot, wellTable, wholeSlots, slotCount, slotsOf}
 use Rattle.profile.specs.Tally.{Tally, tallyWith, inSlot, plus, tallyOf, tallyIn}
 use Rattle.profile.proofs.WellFormed.{few-slots}
@@ -16,35 +17,44 @@ use Rattle.slots.proofs.WellSlots.{length-most-4096}
 use Rattle.tables.proofs.SlotParts.{length-slots, length-slot, slots-end}
 use Rattle.tables.proofs.Turns.{slots-from}
 use Rattle.tables.proofs.WellTables.{slot-well}
+use Rattle.tallies.specs.Shares.{inSum}
 use Rattle.tallies.proofs.Lanes.{packed, unpacked}
 
--- what a slot adds to the number of four counts, and which bits of its length are in the sum, by its place
+-- what a slot adds to the number of four counts, by its place
 abbrev pub ones : List ℕ
 ones = 1 ∷ 65536 ∷ 4294967296 ∷ 281474976710656 ∷ []
 
-abbrev pub masks : List ℕ
-masks = 0 ∷ 0 ∷ 65535 ∷ 65535 ∷ []
-
 -- ---- one slot
+pub no-right : (place len : ℕ) → place < 2 → 0 ≡ inSum place len
+no-right place len h = rw (lt-ltb place 2 h)
+
+pub of-right : (place len : ℕ) → 2 ≤ place → len ≡ inSum place len
+of-right place len h = rw (le-ltb place 2 h)
+
+in-sum-most : (place len : ℕ) → inSum place len ≤ len
+in-sum-most place len = go (ltb place 2)
+  where
+    go : (b : Bool) → (if b then 0 else len) ≤ len
+    go true = omega arith
+    go false = omega arith
+
 record Adds (s : Bytes) : Type 0 where
   place : packed (inSlot (unpack s)) ≡ getD ones (placeOf s) 0
-  bytes : inSlot (unpack s) .payload ≡ bitAnd (word 29 s) (getD masks (placeOf s) 0)
+  bytes : inSlot (unpack s) .payload ≡ inSum (placeOf s) (word 29 s)
 
 module _ (s : Bytes) (four : placeOf s < 4) (long : length s ≡ 4288) (well : wellSlot s ≡ true) where
   short : word 29 s ≤ 4096
   short = length-most-4096 s well
 
-  payload-long : length (rightOf s .payload) ≡ bitAnd (word 29 s) 65535
-  payload-long =
-      length-take (word 29 s) (drop 192 s)
-      ∙ rw (length-drop 192 s) (omega (arith, short, and-mask (word 29 s) 16))
+  payload-long : length (rightOf s .payload) ≡ word 29 s
+  payload-long = length-take (word 29 s) (drop 192 s) ∙ rw (length-drop 192 s) (omega (arith, short))
 
   adds : Adds s
   adds = go (placeOf s) refl
     where
       go : (p : ℕ) → placeOf s ≡ p → Adds s
-      go zero at = record { place = rw (unpack-empty s at, at); bytes = rw (unpack-empty s at, at) (sym (and-zero-r (word 29 s))) }
-      go (suc zero) at = record { place = rw (unpack-reserved s at, at); bytes = rw (unpack-reserved s at, at) (sym (and-zero-r (word 29 s))) }
+      go zero at = record { place = rw (unpack-empty s at, at); bytes = rw (unpack-empty s at, at) }
+      go (suc zero) at = record { place = rw (unpack-reserved s at, at); bytes = rw (unpack-reserved s at, at) }
       go (suc (suc zero)) at = record { place = rw (unpack-enabled s at, at); bytes = rw (unpack-enabled s at, at) payload-long }
       go (suc (suc (suc zero))) at = record { place = rw (unpack-disabled s 0 at, at); bytes = rw (unpack-disabled s 0 at, at) payload-long }
       go (suc (suc (suc (suc n)))) at = absurd (omega (arith, four, at))
@@ -71,14 +81,14 @@ module _ (t : Bytes) where
       more = rw (slots-from t i below s e)
 
       pub one-counted : (place len places payload : ℕ) → place ≡ placeOf s → place < 4 → len ≡ word 29 s
-          → Counted t i places payload → Counted t (i + 1) (places + getD ones place 0) (payload + bitAnd len (getD masks place 0))
+          → Counted t i places payload → Counted t (i + 1) (places + getD ones place 0) (payload + inSum place len)
       one-counted place len places payload at four long c =
           let a = adds s (rw at at four) (rw e (length-slot t i below)) good in
           rw (at, long)
           (record {
             placed = omega (arith, c .placed, ap packed more, a .place);
             summed = omega (arith, c .summed, ap (λ (y : Tally). y .payload) more, a .bytes);
-            most = omega (arith, c .most, and-le-l (word 29 s) (getD masks (placeOf s) 0), length-most-4096 s good);
+            most = omega (arith, c .most, in-sum-most (placeOf s) (word 29 s), length-most-4096 s good);
           })
 
     -- at most 15 slots: four counts have room in one number, and the sum in 16 bits

@@ -1,5 +1,7 @@
 -- What a slot counts for in a tally, by its place and its length.
 use Prim.Native.Nat.{ℕ, _+_, _-_, _≤_, _<_, _^_}
+use lib.Dec.{ltb}
+use Rattle.profile.specs.Bytes.{if_then_else_}
 use Rattle.profile.specs.Tally.{Tally, tallyWith}
 use Rattle.slots.specs.declared.place.Place.{Place}
 use Rattle.slots.specs.declared.place.Place.the-variants.{Empty, Reserved, Enabled, Disabled}
@@ -10,6 +12,10 @@ share Empty n = tallyWith 1 0 0 0 0
 share Reserved n = tallyWith 0 1 0 0 0
 share Enabled n = tallyWith 0 0 1 0 n
 share Disabled n = tallyWith 0 0 0 1 n
+
+-- the payload bytes of a slot, by the number of its place: those of a right are as many as its length, and a slot without one has none
+abbrev pub inSum : ℕ → ℕ → ℕ
+inSum place length = if ltb place 2 then 0 else length
 
 -- a tally less another, number by number
 abbrev pub less : Tally → Tally → Tally

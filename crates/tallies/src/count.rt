@@ -6,21 +6,27 @@ ghost use mathlib.Core.Path.{_≡_};
 ghost use mathlib.Core.Bool.{true};
 ghost use Rattle.profile.specs.Table.{wholeSlots, wellTable};
 ghost use Rattle.profile.specs.Tally.{tallyIn, sameTally};
+ghost use Rattle.tallies.specs.Shares.{inSum};
 
 // What one slot of a place adds to the count of places: four counts of 16 bits in one number, the empty ones lowest.
 const ONE: [u64; 4] = [1, 65536, 4294967296, 281474976710656];
 
-// Which bits of a slot's length are in the sum, by its place: none of an empty slot or a reservation.
-const COUNTED: [u16; 4] = [0, 0, 65535, 65535];
+// What a slot of a place and length adds to the sum: nothing, unless it holds a right. A reservation has no payload yet.
+fn in_sum(place: usize, length: u16) -> u16
+    ensures { λ r. ⌜ r ≡ inSum place length ⌝ }
+{
+    if place < 2 {
+        return 0;
+    }
+    length
+}
 
 // The tally of a well-formed table. Four counts of at most 15 slots have room in one number, and so one sum serves all places.
 pub fn tally_of(t: &[u8]) -> Tally
     requires { ⌜ (wholeSlots (now t) ≡ true) × (wellTable (now t) ≡ true) ⌝ }
     ensures { λ r. ⌜ r ≡ tallyIn (now (t .entry)) ⌝ }
 {
-    // locals, since an index into a constant builds its array anew in each turn
-    let one = ONE;
-    let counted = COUNTED;
+    let one = ONE; // a local, since an index into a constant builds its array anew in each turn
     let mut places: u64 = 0;
     let mut payload: u16 = 0;
     let n = t.len() / SLOT_BYTES;
@@ -29,7 +35,7 @@ pub fn tally_of(t: &[u8]) -> Tally
         let s = tables::part::slot_at(t, i);
         let place = bits::fields::slot_place(s[0]) as usize;
         places += one[place];
-        payload += words::word_at(s, LENGTH_AT) & counted[place];
+        payload += in_sum(place, words::word_at(s, LENGTH_AT));
         i += 1;
     }
     Tally {

@@ -3,19 +3,19 @@ use denote.Ref.{now}
 use mathlib.Core.Path.{_≡_, refl}
 use native.Mathlib.Omega.{arith}
 use Prim.Native.Nat.{ℕ, _+_, _≤_, _<_, _-_}
-use lib.Bits.{bitAnd}
 use lib.ListN.{getD}
 use borrow.Author.Needs.{needs}
 use Rattle.profile.specs.Bytes.{word}
-use Rattle.tallies.proofs.Counting.{ones, masks, Counted, none-counted, one-counted, slots-most-15, counts-most-15, all-counted}
+use Rattle.tallies.specs.Shares.{inSum}
+use Rattle.tallies.proofs.Counting.{ones, Counted, none-counted, one-counted, slots-most-15, counts-most-15, all-counted}
 use Rattle.tallies.proofs.count.tally_of.Statement.{statement}
 use Rattle.tallies.proofs.count.tally_of.Tie as tie
 
 abbrev Inv-loop : tie.InvT-loop
-Inv-loop t one counted places₀ payload₀ n i₀ places payload i = Counted t i places payload × (i ≤ n)
+Inv-loop t one places₀ payload₀ n i₀ places payload i = Counted t i places payload × (i ≤ n)
 
 abbrev μ-loop : tie.MeasureT-loop
-μ-loop t one counted places₀ payload₀ n i₀ places payload i = n - i
+μ-loop t one places₀ payload₀ n i₀ places payload i = n - i
 
 -- the turn of slot i, whose length is w
 module _ (c : tie.After-slot-place Inv-loop μ-loop) where
@@ -29,7 +29,7 @@ module _ (c : tie.After-slot-place Inv-loop μ-loop) where
   four = omega (arith, c .before .shared-slice-known2 .given 0)
 
   counted : (w : ℕ) → w ≡ word 29 (now (c .before .before .slot-at .result))
-      → Counted (now (start .args .t)) (loop .loop .i + 1) (loop .loop .places + getD ones (c .slot-place .result) 0) (loop .loop .payload + bitAnd w (getD masks (c .slot-place .result) 0))
+      → Counted (now (start .args .t)) (loop .loop .i + 1) (loop .loop .places + getD ones (c .slot-place .result) 0) (loop .loop .payload + inSum (c .slot-place .result) w)
   counted w long =
       one-counted (now (start .args .t)) (start .pre .1) (loop .loop .i) (omega arith) _ (c .before .before .slot-at .ensures .0)
       _ w _ _ (c .slot-place .ensures) four long (loop .loop .inv .0)
@@ -61,16 +61,13 @@ add-places c = omega (arith, counted c _ refl .placed, counts-most-15 (now (star
 word-at-requires : tie.Need-word-at-requires Inv-loop μ-loop
 word-at-requires c κs = search needs
 
-mul-payload : tie.Need-mul-payload Inv-loop μ-loop
-mul-payload c = search needs
-
-array-read-payload : tie.Need-array-read-payload Inv-loop μ-loop
-array-read-payload c = four (c .before)
+in-sum-requires : tie.Need-in-sum-requires Inv-loop μ-loop
+in-sum-requires c κs = search needs
 
 add-payload : tie.Need-add-payload Inv-loop μ-loop
 add-payload c =
-    let s = start (c .before) in
-    omega (arith, counted (c .before) _ (c .word-at .ensures) .most, slots-most-15 (now (s .args .t)) (s .pre .1) (s .pre .0))
+    let s = start (c .before .before) in
+    omega (arith, c .in-sum .ensures, counted (c .before .before) _ (c .before .word-at .ensures) .most, slots-most-15 (now (s .args .t)) (s .pre .1) (s .pre .0))
 
 add-i : tie.Need-add-i Inv-loop μ-loop
 add-i c = search needs
@@ -79,19 +76,19 @@ loop-less : tie.Need-loop-less Inv-loop μ-loop
 loop-less c = search needs
 
 loop-again : tie.Need-loop-again Inv-loop μ-loop
-loop-again c = (counted (c .before) _ (c .word-at .ensures), omega arith)
+loop-again c = (rw (c .in-sum .ensures) (counted (c .before .before) _ (c .before .word-at .ensures)), omega arith)
 
-cast-t27 : tie.Need-cast-t27 Inv-loop μ-loop
-cast-t27 c = search needs
+cast-t22 : tie.Need-cast-t22 Inv-loop μ-loop
+cast-t22 c = search needs
+
+cast-t25 : tie.Need-cast-t25 Inv-loop μ-loop
+cast-t25 c = search needs
+
+cast-t28 : tie.Need-cast-t28 Inv-loop μ-loop
+cast-t28 c = search needs
 
 cast-t30 : tie.Need-cast-t30 Inv-loop μ-loop
-cast-t30 c = search needs
-
-cast-t33 : tie.Need-cast-t33 Inv-loop μ-loop
-cast-t33 c = search needs
-
-cast-t35 : tie.Need-cast-t35 Inv-loop μ-loop
-cast-t35 c =
+cast-t30 c =
     let l = c .before in
     let s = l .before .before in
     omega (arith, l .loop .inv .0 .placed, counts-most-15 (now (s .args .t)) (s .pre .1) (s .pre .0))
@@ -117,14 +114,13 @@ tally-of-spec =
     array-read-places
     add-places
     word-at-requires
-    mul-payload
-    array-read-payload
+    in-sum-requires
     add-payload
     add-i
     loop-less
     loop-again
-    cast-t27
+    cast-t22
+    cast-t25
+    cast-t28
     cast-t30
-    cast-t33
-    cast-t35
     returns)
