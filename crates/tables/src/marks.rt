@@ -12,7 +12,7 @@ ghost use Rattle.tables.specs.Marks.{markIn, timesOf, Marked};
 // As many as fill a vector of the machine: one for each slot of a table, and one to spare.
 pub(crate) const MARKS: usize = 16;
 
-// The mark of a slot: the last two bytes of its handle in one, since handles that were counted up differ in one of them.
+// The mark of a slot: the last two bytes of its handle in one, since most handles that were counted up differ in one of them alone.
 pub(crate) fn mark_of(s: &[u8]) -> u8
     requires { ⌜ length (now s) ≡ slotSize ⌝ }
     ensures { λ r. ⌜ r ≡ markIn (now (s .entry)) ⌝ }
