@@ -20,10 +20,10 @@ extern "C" {
 #endif
 
 /* The version of the library. */
-#define CAVERNLULL_VERSION_MAJOR 5
+#define CAVERNLULL_VERSION_MAJOR 6
 #define CAVERNLULL_VERSION_MINOR 0
 #define CAVERNLULL_VERSION_PATCH 0
-#define CAVERNLULL_VERSION "5.0.0"
+#define CAVERNLULL_VERSION "6.0.0"
 
 /* Sizes in bytes, and the most slots and hashes (PROFILE 1.3). */
 enum {
@@ -34,7 +34,7 @@ enum {
     CAVERNLULL_HANDLE_BYTES = 10,
     CAVERNLULL_KEY_BYTES = 16,
     CAVERNLULL_HASH_BYTES = 20,
-    CAVERNLULL_MOST_HASHES = 8,
+    CAVERNLULL_MOST_HASHES = 8, /* in a record, a query or an installation; an installation has 1 at least */
     CAVERNLULL_LISTING_ROOM = 406 /* room for every listing */
 };
 
@@ -146,15 +146,16 @@ uint16_t cavernlull_tally(const uint8_t *table, size_t table_length, struct cave
  *   8  Handle List Query             limit, hashes
  *   9  Rights Information Query      handle
  *
- * `kept` is 1 where a count is kept, and 0 where none is: `count` must then be 0.
+ * `kept` is 1 where a count is kept, and 0 where none is: `count` must then be 0. `hashes` are 20 bytes each: 1 to 8 of them for
+ * kind 2, since a right is found by them, and 0 to 8 for kind 8, where none asks for all handles.
  *
  * Returns 0 when it has written the frame at the start of `out`. The frame's length is 4 plus the 16-bit number, high byte
  * first, in its third and fourth bytes; the bytes after it keep what they held.
  *
  * Otherwise returns the first of these numbers that applies, and does not change `out`:
- *   202 CAVERNLULL_WRITER_FIELDS        the kind is not 1 to 9; the hashes are not 0 to 8 times 20 bytes; the payload of kind 2
- *                                       is not 1 to 4,096 bytes; `kept` is over 1; `count` is not 0 though `kept` is 0; or a
- *                                       field that the kind lacks is not zero or empty
+ *   202 CAVERNLULL_WRITER_FIELDS        the kind is not 1 to 9; the hashes are not 0 to 8 times 20 bytes; kind 2 has no hash; its
+ *                                       payload is not 1 to 4,096 bytes; `kept` is over 1; `count` is not 0 though `kept` is 0;
+ *                                       or a field that the kind lacks is not zero or empty
  *   201 CAVERNLULL_WRITER_BUFFER_SHORT  the frame does not fit into `out`
  */
 uint16_t cavernlull_write_request(uint8_t kind, const uint8_t *handle, const uint8_t *new_handle, const uint8_t *key,
