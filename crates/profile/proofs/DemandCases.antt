@@ -4,7 +4,7 @@ use mathlib.Core.Path.{_≡_, refl, sym, ap}
 use mathlib.Core.List.{List, [], _∷_, cons≢nil}
 use mathlib.Core.Option.{some, Option·some-injective}
 use native.Mathlib.Omega.{arith}
-use lib.ListN.{length, getElem?}
+use lib.ListN.{length, getD, getElem?}
 use Rattle.profile.specs.Bytes.{Bytes, byte, zeros, over, In}
 use Rattle.profile.specs.Table.{unpack, image, pack, wellRest, wellSlot, slotBytes, slotsOf, tableOf, wholeSlots, wellTable}
 use Rattle.profile.specs.Slot.{keptBit, countNumber, reserved, enabled, disabled, Slot, empty, taken}
@@ -58,7 +58,7 @@ demands-hold =
       lost = λ c. not-equal 0 1 (λ t. t) (c .as-many);
       refused = λ c. not-equal 1 0 (λ t. t) (c .as-many);
       other-key = λ c. not-equal 0xE0 1 (λ t. t) (ap (byte 0) (c .each 0 _ _ refl refl .key));
-      other-hash = λ c. not-equal 1 0 (λ t. t) (ap (λ (hs : List Bytes). length hs) (c .each 0 _ _ refl refl .hashes));
+      other-hash = λ c. not-equal 0x40 0xA0 (λ t. t) (ap (λ (hs : List Bytes). byte 0 (getD hs 0 [])) (c .each 0 _ _ refl refl .hashes));
       other-payload = λ c. not-equal 1 5 (λ t. t) (ap (λ (p : Bytes). length p) (c .each 0 _ _ refl refl .payload));
       other-count = λ c. not-equal 8 7 (λ t. t) (ap countNumber (c .each 0 _ _ refl refl .count));
       other-bit = λ c. not-equal 0 1 (λ t. t) (ap keptBit (c .each 0 _ _ refl refl .count));

@@ -9,4 +9,4 @@ use Rattle.profile.specs.Cases.{cases}
 pub requests-hold : RequestCases.Hold
 unfolding RequestCases.requests RequestCases.noFrames RequestCases.heads RequestCases.kinds RequestCases.lengths
     RequestCases.verdicts RequestCases.fieldTests RequestCases.cases readRequest writeRequest frame
-requests-hold = record { lengths-fit = refl; verdict-bit = refl; kept-bit = refl; zero-bits = refl; zero-bits-6 = refl; versions = refl; kind-bits = refl; hash-counts = refl; read = refl; write = refl }
+requests-hold = record { lengths-fit = refl; verdict-bit = refl; kept-bit = refl; zero-bits = refl; zero-bits-6 = refl; versions = refl; kind-bits = refl; hash-counts = refl; some-hash = refl; read = refl; write = refl }

@@ -2,7 +2,8 @@
 use mathlib.Core.Path.{refl}
 use lib.Dec.{leb→le}
 use Rattle.profile.specs.Slot.{RightFits}
-use Rattle.profile.specs.SizeCases.{least, most, Hold}
+use Rattle.profile.specs.Request.{Installable}
+use Rattle.profile.specs.SizeCases.{least, leastSent, most, Hold}
 use Rattle.profile.proofs.Logic.{not-equal, not-over}
 
 least-right : RightFits least
@@ -23,6 +24,20 @@ most-right =
           };
       some-payload = leb→le 1 4096 tt;
     }
+
+sent-right : Installable leastSent
+sent-right =
+    record {
+      fits =
+          record {
+            room = record { key-16 = refl; hashed = record { each = (refl, tt); few = leb→le 1 8 tt }; short = leb→le 1 4096 tt };
+            some-payload = leb→le 1 1 tt;
+          };
+      some-hash = leb→le 1 1 tt;
+    }
+
+most-installable : Installable most
+most-installable = record { fits = most-right; some-hash = leb→le 1 8 tt }
 
 pub sizes-hold : Hold
 sizes-hold =
@@ -50,8 +65,12 @@ sizes-hold =
       table-fits = (tt, ((refl, (leb→le 1 1 tt, leb→le 1 4096 tt)), ((refl, least-right), tt)));
       first-bad = λ f. not-over 1 0 (λ t. t) (f .0 .1 .0);
       last-bad = λ f. not-over 1 0 (λ t. t) (f .1 .0 .1 .0);
+      least-sent = sent-right;
+      most-sent = most-installable;
+      no-hash = λ f. not-over 1 0 (λ t. t) (f .some-hash);
+      not-fitting = λ f. not-over 1 0 (λ t. t) (f .fits .some-payload);
       setup-fits = refl;
-      install-fits = (refl, most-right);
+      install-fits = (refl, most-installable);
       retrieve-fits = (refl, refl);
       rek-fits = (refl, refl);
       enable-fits = refl;
@@ -61,7 +80,8 @@ sizes-hold =
       info-fits = refl;
       setup-9 = λ f. not-equal 9 10 (λ t. t) f;
       install-9 = λ f. not-equal 9 10 (λ t. t) (f .0);
-      install-0 = λ f. not-over 1 0 (λ t. t) (f .1 .some-payload);
+      install-0 = λ f. not-over 1 0 (λ t. t) (f .1 .fits .some-payload);
+      install-bare = λ f. not-over 1 0 (λ t. t) (f .1 .some-hash);
       retrieve-9 = λ f. not-equal 9 10 (λ t. t) (f .0);
       retrieve-11 = λ f. not-equal 11 10 (λ t. t) (f .1);
       rek-9 = λ f. not-equal 9 10 (λ t. t) (f .0);

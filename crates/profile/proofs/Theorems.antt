@@ -37,6 +37,8 @@ use Rattle.profile.proofs.SizeCases.{sizes-hold}
 use Rattle.profile.proofs.DemandCases.{demands-hold}
 use Rattle.profile.proofs.StartCases.{starts-hold}
 use Rattle.profile.proofs.TallyCases.{tallies-hold}
+use Rattle.profile.proofs.UnlistedCases.{unlisted-hold}
+use Rattle.profile.proofs.Unlisted.{in-use, when-lent, none-comes, all-have-one, by-course}
 use Rattle.profile.proofs.Demand3.{demand-3}
 use Rattle.profile.proofs.TallyLaws.{counts-all, tally-slot}
 use Rattle.profile.proofs.Tallies.{differs-106, turn-tally, tally-afresh, tally-stays, carries-on, never-106}
@@ -92,6 +94,11 @@ theorems =
       sets-only = sets-only;
       lists-exactly = lists-exactly;
       lists-only = lists-only;
+      in-use = in-use;
+      when-lent = when-lent;
+      none-comes = none-comes;
+      all-have-one = all-have-one;
+      by-course = by-course;
       bytes-hold = bytes-hold;
       sizes-hold = sizes-hold;
       tables-hold = tables-hold;
@@ -106,6 +113,7 @@ theorems =
       demands-hold = demands-hold;
       starts-hold = starts-hold;
       tallies-hold = tallies-hold;
+      unlisted-hold = unlisted-hold;
       demand-3 = demand-3;
       only-setups = only-setups;
       same-call = same-call;

@@ -3,7 +3,7 @@ use Prim.Native.Nat.{ℕ, _+_, _*_, _/_, _%_, _≤_}
 use mathlib.Core.Path.{_≡_, refl, sym, ap, ap₂, _∙_}
 use mathlib.Core.List.{List, [], _∷_, append-nil}
 use mathlib.Core.Option.{some}
-use mathlib.Core.Bool.{Bool, true, false, _&&_}
+use mathlib.Core.Bool.{Bool, true, false, _&&_, not}
 use native.Mathlib.Omega.{arith}
 use lib.Dec.{eqb, leb}
 use lib.ListN.{length, drop, length-drop}
@@ -13,7 +13,7 @@ use Rattle.profile.specs.Sizes.{hashSize, mostHashes}
 use Rattle.profile.specs.Slot.{Count, keptBit, countNumber, countHolds, HashesFit}
 use Rattle.profile.specs.Frame.{Kind, Setup, Install, Retrieve, Rek, Enable, Remove, Cancel, List', Info, kindOf, kindNumber}
 use Rattle.profile.specs.Request.{Request, setup, install, retrieve, rek, enable, remove, cancel, list, info, asks, verdict, guarded, fields, readRequest, withVerdict, RequestFits}
-use Rattle.profile.specs.Device.{wholeHashes, kindHolds, requestOf, fieldsWith, fieldsIn, Arrays, Written, write}
+use Rattle.profile.specs.Device.{none?, wholeHashes, kindHolds, requestOf, fieldsWith, fieldsIn, Arrays, Written, write}
 use Rattle.profile.specs.Theorems.{WrittenAgain}
 use Rattle.profile.proofs.Logic.{both, and-parts, eqb-true, leb-le, leb-true, ltb-false, from-1-to, positive}
 use Rattle.profile.proofs.Strings.{length-zeros, length-each, pieces-joined}
@@ -59,6 +59,10 @@ module _ (hs : List Bytes) (z : HashesFit hashSize mostHashes hs) where
       let n : length (joined hs) / 20 ≡ length hs = omega (arith, size) in
       rw n (ap (pieces hashSize (length hs)) (sym (append-nil (joined hs))) ∙ pieces-joined hashSize hs [] (z .each))
 
+some-bytes : (s : Bytes) → 1 ≤ length s → not (none? s) ≡ true
+some-bytes [] h = absurd (omega (arith, h))
+some-bytes (x ∷ s) h = refl
+
 -- a count's number and bit say a count
 count-said : (c : Count) → (leb (keptBit c) 1 && countHolds (keptBit c) (countNumber c)) ≡ true
 count-said c = both (leb-true (keptBit c) 1 (omega (arith, kept-small c))) (count-holds c)
@@ -66,7 +70,10 @@ count-said c = both (leb-true (keptBit c) 1 (omega (arith, kept-small c))) (coun
 allowed : (q : Request) → RequestFits q → (wholeHashes (fieldsIn q .hashes) && kindHolds (kindFor q) (fieldsIn q)) ≡ true
 unfolding kindFor zeros
 allowed (setup h n) z = refl
-allowed (install h r) z = both (whole (r .hashes) (z .1 .room .hashed)) (both (count-said (r .count)) (from-1-to {n = length (r .payload)} {m = 4096} (z .1 .some-payload) (z .1 .room .short)))
+allowed (install h r) z =
+    both (whole (r .hashes) (z .1 .fits .room .hashed)) (both
+    (both (count-said (r .count)) (some-bytes (joined (r .hashes)) (omega (arith, size (r .hashes) (z .1 .fits .room .hashed), z .1 .some-hash))))
+    (from-1-to {n = length (r .payload)} {m = 4096} (z .1 .fits .some-payload) (z .1 .fits .room .short)))
 allowed (retrieve h k) z = refl
 allowed (rek h k) z = refl
 allowed (enable h c) z = count-said c
@@ -80,7 +87,7 @@ unfolding kindFor
 back (setup h n) z = refl
 back (install h r) z =
     ap₂ {C = Request} (λ (c : Count) (hs : List Bytes). install h (record { key = r .key; count = c; hashes = hs; payload = r .payload }))
-    (count-back (r .count)) (cut-again (r .hashes) (z .1 .room .hashed))
+    (count-back (r .count)) (cut-again (r .hashes) (z .1 .fits .room .hashed))
 back (retrieve h k) z = refl
 back (rek h k) z = refl
 back (enable h c) z = ap {B = Request} (enable h) (count-back c)
@@ -95,7 +102,7 @@ arrays-with h k key room c bit limit hashes payload a b d = record { handle-10 =
 
 arrays : (q : Request) → RequestFits q → Arrays (fieldsIn q)
 arrays (setup h n) z = arrays-with _ _ _ _ _ _ _ _ _ z (length-zeros 10) (length-zeros 16)
-arrays (install h r) z = arrays-with _ _ _ _ _ _ _ _ _ (z .0) (length-zeros 10) (z .1 .room .key-16)
+arrays (install h r) z = arrays-with _ _ _ _ _ _ _ _ _ (z .0) (length-zeros 10) (z .1 .fits .room .key-16)
 arrays (retrieve h k) z = arrays-with _ _ _ _ _ _ _ _ _ (z .0) (z .1) (length-zeros 16)
 arrays (rek h k) z = arrays-with _ _ _ _ _ _ _ _ _ (z .0) (z .1) (length-zeros 16)
 arrays (enable h c) z = arrays-with _ _ _ _ _ _ _ _ _ z (length-zeros 10) (length-zeros 16)

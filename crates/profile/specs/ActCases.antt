@@ -24,9 +24,12 @@ denies t q r = record { slots = t; request = q; answer = deny r }
 abbrev pub gives : List Slot → Request → Given → List Slot → Case
 gives t q g u = record { slots = t; request = q; answer = done g u }
 
--- ---- rights: with no hash, with A and B, with B alone, with eight hashes; a key of zeros; six bytes of payload
+-- ---- rights: with no hash, with A, with A and B, with B alone, with eight hashes; a key of zeros; six bytes of payload
 abbrev pub plain : Right
 plain = rightWith K (Kept 7) [] five
+
+abbrev pub onlyA : Right
+onlyA = rightWith K (Kept 7) (A ∷ []) five
 
 abbrev pub both : Right
 both = rightWith L (Kept 258) (A ∷ B ∷ []) (hex "BC")
@@ -41,7 +44,7 @@ abbrev pub zeroKey : Right
 zeroKey = rightWith (replicate 16 0x00) (Kept 7) [] five
 
 abbrev pub six : Right
-six = rightWith K (Kept 7) [] (hex "A1 A2 A3 A4 A5 A6")
+six = rightWith K (Kept 7) (A ∷ []) (hex "A1 A2 A3 A4 A5 A6")
 
 -- ---- slots: H1 reserved, H2 enabled, H3 disabled; an empty one after them
 abbrev pub full : List Slot
@@ -78,12 +81,12 @@ setups =
 unfoldable pub installations : List Case
 installations =
     -- an absent handle; a record that is not reserved; a payload longer than its room
-    denies full (install H4 plain) notFound
-    ∷ denies (empty ∷ []) (install H1 plain) notFound
-    ∷ denies full (install H2 plain) unexpected
+    denies full (install H4 onlyA) notFound
+    ∷ denies (empty ∷ []) (install H1 onlyA) notFound
+    ∷ denies full (install H2 onlyA) unexpected
     ∷ denies full (install H3 six) unexpected
     ∷ denies full (install H1 six) noSpace
-    ∷ gives full (install H1 plain) nothing (taken H1 (enabled plain) ∷ taken H2 (enabled both) ∷ taken H3 (disabled plain) ∷ [])
+    ∷ gives full (install H1 onlyA) nothing (taken H1 (enabled onlyA) ∷ taken H2 (enabled both) ∷ taken H3 (disabled plain) ∷ [])
     ∷ gives (empty ∷ full) (install H1 both) nothing (empty ∷ taken H1 (enabled both) ∷ taken H2 (enabled both) ∷ taken H3 (disabled plain) ∷ [])
     ∷ []
 
@@ -107,7 +110,9 @@ lendings =
     ∷ denies full (rek H2 H2) duplicate
     ∷ denies full (retrieve H2 H3) duplicate
     ∷ denies full (rek H2 H3) duplicate
-    -- the record is disabled under the new handle, and nothing else changes
+    -- the record is disabled under the new handle, and nothing else changes; so, too, one without a hash
+    ∷ gives (taken H1 (enabled plain) ∷ []) (retrieve H1 H2) (theRight plain) (taken H2 (disabled plain) ∷ [])
+    ∷ gives (taken H1 (enabled plain) ∷ []) (rek H1 H2) (theKey K) (taken H2 (disabled plain) ∷ [])
     ∷ gives full (retrieve H2 H4) (theRight both) (taken H1 (reserved 5) ∷ taken H4 (disabled both) ∷ taken H3 (disabled plain) ∷ [])
     ∷ gives full (rek H2 H4) (theKey L) (taken H1 (reserved 5) ∷ taken H4 (disabled both) ∷ taken H3 (disabled plain) ∷ [])
     ∷ []
@@ -140,6 +145,7 @@ others =
     ∷ denies full (info H1) unexpected
     ∷ denies full (info H3) unexpected
     ∷ gives full (info H2) (counted (Kept 258) (hex "BC")) full
+    ∷ gives (taken H1 (enabled plain) ∷ []) (info H1) (counted (Kept 7) five) (taken H1 (enabled plain) ∷ [])
     ∷ []
 
 -- ---- PROFILE 5.8: empty, H1 with no hash, reserved, H3 with A and B, disabled with A and B, H2 with B

@@ -10,7 +10,7 @@ use Rattle.profile.specs.Request.{install, rek, retrieve, enable, remove
 use Rattle.profile.specs.Tally.{Tally, tallyWith}
 use Rattle.profile.specs.Agent.{Call}
 use Rattle.profile.specs.History.{Owned, forUse, lent, gone, Ledger, blankLedger, Exchange}
-use Rattle.profile.specs.CaseBytes.{hex, changed, H1, H2, H3, H4, K, L, A, five}
+use Rattle.profile.specs.CaseBytes.{hex, changed, H1, H2, H3, H4, K, L, A, B, five}
 use Rattle.profile.specs.CaseTables.{blank, after7, after9, counted7, hashed2, waiting}
 use Rattle.profile.specs.HistoryCases.{plain, other, asking}
 use Rattle.profile.specs.Contents.{installations, lastCount, held, Contents}
@@ -57,11 +57,11 @@ pub record Hold : Type 0 where
   -- rights hold what was sent: not where there is none, where none was installed, or with another key, hash, payload or count
   pub lost : ¬ Contents (asking (install H1 plain) 0 ∷ []) blankLedger
   pub refused : ¬ Contents (asking (install H1 plain) 7 ∷ []) (ledgerOf (forUse H1 plain ∷ []))
-  pub other-key : ¬ Contents (asking (install H1 plain) 0 ∷ []) (ledgerOf (forUse H1 (rightWith L (Kept 7) [] five) ∷ []))
-  pub other-hash : ¬ Contents (asking (install H1 plain) 0 ∷ []) (ledgerOf (forUse H1 (rightWith K (Kept 7) (A ∷ []) five) ∷ []))
-  pub other-payload : ¬ Contents (asking (install H1 plain) 0 ∷ []) (ledgerOf (lent H1 (rightWith K (Kept 7) [] (hex "BC")) ∷ []))
-  pub other-count : ¬ Contents (asking (install H1 plain) 0 ∷ []) (ledgerOf (gone (rightWith K (Kept 8) [] five) ∷ []))
-  pub other-bit : ¬ Contents (asking (install H1 (rightWith K (Kept 0) [] five)) 0 ∷ []) (ledgerOf (forUse H1 (rightWith K NoneKept [] five) ∷ []))
+  pub other-key : ¬ Contents (asking (install H1 plain) 0 ∷ []) (ledgerOf (forUse H1 (rightWith L (Kept 7) (A ∷ []) five) ∷ []))
+  pub other-hash : ¬ Contents (asking (install H1 plain) 0 ∷ []) (ledgerOf (forUse H1 (rightWith K (Kept 7) (B ∷ []) five) ∷ []))
+  pub other-payload : ¬ Contents (asking (install H1 plain) 0 ∷ []) (ledgerOf (lent H1 (rightWith K (Kept 7) (A ∷ []) (hex "BC")) ∷ []))
+  pub other-count : ¬ Contents (asking (install H1 plain) 0 ∷ []) (ledgerOf (gone (rightWith K (Kept 8) (A ∷ []) five) ∷ []))
+  pub other-bit : ¬ Contents (asking (install H1 (rightWith K (Kept 0) (A ∷ []) five)) 0 ∷ []) (ledgerOf (forUse H1 (rightWith K NoneKept (A ∷ []) five) ∷ []))
   -- kinds 4 and 3 send a key
   pub by-rek : KeyOut after7 (calling (tallyWith 0 0 1 0 5) (hex "24 80 00 14" ++ H1 ++ H2)) H1 H2
   pub by-retrieval : KeyOut hashed2 (calling (tallyWith 0 0 1 0 1) (hex "23 80 00 14" ++ H3 ++ H4)) H3 H4

@@ -17,10 +17,10 @@ use Rattle.profile.specs.CaseTables.{blank, lent7}
 
 -- a right with a kept count of 7, the same with 3, and another
 abbrev pub plain : Right
-plain = rightWith K (Kept 7) [] five
+plain = rightWith K (Kept 7) (A ∷ []) five
 
 abbrev pub counted3 : Right
-counted3 = rightWith K (Kept 3) [] five
+counted3 = rightWith K (Kept 3) (A ∷ []) five
 
 abbrev pub other : Right
 other = rightWith L (Kept 258) (A ∷ []) (hex "BC")
@@ -80,10 +80,10 @@ telling c = told before (record { request = c .request; status = c .status })
 abbrev pub frames : List (Tally × Bytes)
 frames =
     (tallyWith 2 0 0 0 0, hex "21 80 00 0C" ++ H1 ++ hex "00 05")
-    ∷ (tallyWith 1 1 0 0 0, hex "22 C0 00 22" ++ H1 ++ K ++ hex "00 07 00" ++ five)
+    ∷ (tallyWith 1 1 0 0 0, hex "22 C0 00 36" ++ H1 ++ K ++ hex "00 07 10" ++ A ++ five)
     ∷ (tallyWith 1 0 1 0 5, hex "24 80 00 14" ++ H1 ++ H2)
     ∷ (tallyWith 1 0 0 1 5, hex "21 80 00 0C" ++ H1 ++ hex "00 05")
-    ∷ (tallyWith 0 1 0 1 5, hex "22 C0 00 22" ++ H1 ++ K ++ hex "00 07 00" ++ five)
+    ∷ (tallyWith 0 1 0 1 5, hex "22 C0 00 36" ++ H1 ++ K ++ hex "00 07 10" ++ A ++ five)
     ∷ (tallyWith 0 0 1 1 10, hex "24 80 00 14" ++ H2 ++ H3)
     ∷ (tallyWith 0 0 1 1 10, hex "26 80 00")
     ∷ []

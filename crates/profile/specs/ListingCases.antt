@@ -8,7 +8,7 @@ use Rattle.profile.specs.Bytes.{Bytes}
 use Rattle.profile.specs.Text.{text}
 use Rattle.profile.specs.Listing.{listing, lines, decimal}
 use Rattle.profile.specs.CaseBytes.{hex, laid, changed, H2}
-use Rattle.profile.specs.CaseTables.{blank, after1, after7, usedUp, hashed8, longest, waiting}
+use Rattle.profile.specs.CaseTables.{blank, after1, after7, usedUp, bare, bareLent, hashed8, longest, waiting}
 
 -- disabled, with the greatest count, and the length 256
 abbrev pub counted : Bytes
@@ -21,9 +21,11 @@ cases =
     (after1, "slot place hashes count length\n0 reserved 0 0 5\n")
     -- all four places
     ∷ (hashed8 ++ blank ++ counted ++ waiting, "slot place hashes count length\n0 enabled 8 7 5\n1 empty 0 0 0\n2 disabled 0 65535 256\n3 reserved 0 0 5\n")
-    ∷ (changed 27 0x04 (changed 28 0xD2 longest), "slot place hashes count length\n0 enabled 0 1234 4096\n")
+    ∷ (changed 27 0x04 (changed 28 0xD2 longest), "slot place hashes count length\n0 enabled 1 1234 4096\n")
     -- the number of a count, whether one is kept or not
-    ∷ (after7 ++ usedUp, "slot place hashes count length\n0 enabled 0 0 5\n1 enabled 0 0 5\n")
+    ∷ (after7 ++ usedUp, "slot place hashes count length\n0 enabled 1 0 5\n1 enabled 1 0 5\n")
+    -- a right without a hash
+    ∷ (bare ++ bareLent, "slot place hashes count length\n0 enabled 0 0 5\n1 disabled 0 0 5\n")
     -- PROFILE 7.2: refused tables
     ∷ ([], "refused 102\n")
     ∷ (replicate 4289 0x01, "refused 102\n")

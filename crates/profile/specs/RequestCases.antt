@@ -9,7 +9,7 @@ use Rattle.profile.specs.Bytes.{Bytes, joined}
 use Rattle.profile.specs.Slot.{NoneKept, Kept, rightWith}
 use Rattle.profile.specs.Frame.{Kind, Setup, Install, Retrieve, Rek, Enable, Remove, Cancel, List', Info, versionHolds, kindNumber, hashCountAt18, Refusal, integrity, parameter, unsupported}
 use Rattle.profile.specs.Request.{Request, setup, install, retrieve, rek, enable, remove, cancel, list, info}
-use Rattle.profile.specs.Request.{Read, asks, refused, noFrame, verdict, keptAsked, zeroBits, bodyFits, readRequest, writeRequest}
+use Rattle.profile.specs.Request.{Read, asks, refused, noFrame, verdict, keptAsked, zeroBits, bodyFits, sendsHash, readRequest, writeRequest}
 use Rattle.profile.specs.CaseBytes.{hex, sized, h, n, key, p, q, eight, eightHashes}
 
 -- a frame, and what it is read as
@@ -30,10 +30,10 @@ right head middle rest = sized head (h ++ key ++ hex middle ++ rest)
 unfoldable pub requests : List Case
 requests =
     reads (hex "21 80 00 0C" ++ h ++ hex "31 32") (setup h 0x3132)
-    ∷ reads (hex "22 C0 00 1E" ++ h ++ key ++ hex "31 32 00 51") (install h (rightWith key (Kept 0x3132) [] (hex "51")))
+    ∷ reads (hex "22 C0 00 32" ++ h ++ key ++ hex "31 32 10" ++ p ++ hex "51") (install h (rightWith key (Kept 0x3132) (p ∷ []) (hex "51")))
     ∷ reads (hex "22 C0 00 33" ++ h ++ key ++ hex "31 32 10" ++ p ++ hex "51 52") (install h (rightWith key (Kept 0x3132) (p ∷ []) (hex "51 52")))
     ∷ reads (hex "22 80 00 47" ++ h ++ key ++ hex "00 00 20" ++ p ++ q ++ hex "00 52") (install h (rightWith key NoneKept (p ∷ q ∷ []) (hex "00 52")))
-    ∷ reads (hex "22 C0 00 1E" ++ h ++ key ++ hex "00 00 00 51") (install h (rightWith key (Kept 0) [] (hex "51")))
+    ∷ reads (hex "22 C0 00 32" ++ h ++ key ++ hex "00 00 10" ++ p ++ hex "51") (install h (rightWith key (Kept 0) (p ∷ []) (hex "51")))
     ∷ reads (hex "23 80 00 14" ++ h ++ n) (retrieve h n)
     ∷ reads (hex "24 80 00 14" ++ h ++ n) (rek h n)
     ∷ reads (hex "25 C0 00 0C" ++ h ++ hex "31 32") (enable h (Kept 0x3132))
@@ -106,8 +106,8 @@ heads =
     ∷ refuses (hex "2A C0 00 00") parameter
     ∷ refuses (hex "3F 40 00 00") parameter
     -- each of the six zero bits of kinds 2 and 5
-    ∷ refuses (hex "22 81 00 1E" ++ h ++ key ++ hex "00 00 00 51") parameter
-    ∷ refuses (hex "22 E0 00 1E" ++ h ++ key ++ hex "00 00 00 51") parameter
+    ∷ refuses (hex "22 81 00 32" ++ h ++ key ++ hex "00 00 10" ++ p ++ hex "51") parameter
+    ∷ refuses (hex "22 E0 00 32" ++ h ++ key ++ hex "00 00 10" ++ p ++ hex "51") parameter
     ∷ refuses (hex "25 C1 00 0C" ++ h ++ hex "31 32") parameter
     ∷ refuses (hex "25 82 00 0C" ++ h ++ hex "00 00") parameter
     ∷ refuses (hex "25 C4 00 0C" ++ h ++ hex "31 32") parameter
@@ -163,12 +163,13 @@ lengths =
     ∷ refuses (hex "29 80 00 0B" ++ h ++ hex "00") parameter
     ∷ []
 
--- ---- PROFILE 4.3: verdict 0 in kinds 1 to 7, before the fields of kinds 2 and 5; kinds 8 and 9 are read
+-- ---- PROFILE 4.3: verdict 0 in kinds 1 to 7, before the fields of kinds 2 and 5, a missing hash among them; kinds 8 and 9 are read
 unfoldable pub verdicts : List Case
 verdicts =
     refuses (hex "21 00 00 0C" ++ h ++ hex "00 05") integrity
     ∷ refuses (hex "21 00 00 0C" ++ h ++ hex "00 00") integrity
     ∷ refuses (hex "22 00 00 1E" ++ h ++ key ++ hex "31 32 00 51") integrity
+    ∷ refuses (hex "22 00 00 32" ++ h ++ key ++ hex "00 00 10" ++ p ++ hex "51") integrity
     ∷ refuses (hex "22 00 00 1E" ++ h ++ key ++ hex "31 32 91 51") integrity
     ∷ refuses (right "22 00" "31 32 00" (replicate 4097 0x5A)) integrity
     ∷ refuses (hex "23 00 00 14" ++ h ++ n) integrity
@@ -186,16 +187,21 @@ verdicts =
 -- ---- PROFILE 5.2, 5.5 and 5.8: the field tests
 unfoldable pub fieldTests : List Case
 fieldTests =
+    -- no hash, whatever follows: a body of 30 bytes, one as long as with a hash, one with 4,096 bytes of payload
+    refuses (right "22 C0" "31 32 00" (hex "51")) parameter
+    ∷ refuses (right "22 80" "00 00 00" (hex "51 52 53 54 55")) parameter
+    ∷ refuses (right "22 C0" "31 32 00" (p ++ hex "51")) parameter
+    ∷ refuses (right "22 C0" "31 32 00" (replicate 4096 0x5A)) parameter
     -- 8 hashes, and more
-    reads (right "22 C0" "31 32 80" (eight ++ hex "51")) (install h (rightWith key (Kept 0x3132) eightHashes (hex "51")))
+    ∷ reads (right "22 C0" "31 32 80" (eight ++ hex "51")) (install h (rightWith key (Kept 0x3132) eightHashes (hex "51")))
     ∷ refuses (right "22 C0" "31 32 90" (eight ++ p ++ hex "51")) parameter
     ∷ refuses (right "22 C0" "31 32 F0" (eight ++ eight ++ hex "51")) parameter
     -- the low half of the hash byte: each bit
-    ∷ refuses (right "22 C0" "31 32 01" (hex "51 52")) parameter
-    ∷ refuses (right "22 C0" "31 32 02" (hex "51 52")) parameter
-    ∷ refuses (right "22 C0" "31 32 04" (hex "51 52")) parameter
-    ∷ refuses (right "22 C0" "31 32 08" (hex "51 52")) parameter
+    ∷ refuses (right "22 C0" "31 32 11" (p ++ hex "51 52")) parameter
+    ∷ refuses (right "22 C0" "31 32 12" (p ++ hex "51 52")) parameter
+    ∷ refuses (right "22 C0" "31 32 14" (p ++ hex "51 52")) parameter
     ∷ refuses (right "22 C0" "31 32 18" (p ++ hex "51 52")) parameter
+    ∷ refuses (right "22 C0" "31 32 01" (hex "51 52")) parameter
     -- the payload: none, one byte, and hashes that overrun the body
     ∷ refuses (right "22 C0" "31 32 10" p) parameter
     ∷ reads (right "22 C0" "31 32 10" (p ++ hex "51")) (install h (rightWith key (Kept 0x3132) (p ∷ []) (hex "51")))
@@ -203,13 +209,13 @@ fieldTests =
     ∷ refuses (right "22 C0" "31 32 80" eight) parameter
     ∷ refuses (right "22 C0" "31 32 10" (hex "51")) parameter
     -- 4,096 and 4,097 bytes
-    ∷ reads (right "22 C0" "31 32 00" (replicate 4096 0x5A)) (install h (rightWith key (Kept 0x3132) [] (replicate 4096 0x5A)))
-    ∷ refuses (right "22 C0" "31 32 00" (replicate 4097 0x5A)) parameter
+    ∷ reads (right "22 C0" "31 32 10" (p ++ replicate 4096 0x5A)) (install h (rightWith key (Kept 0x3132) (p ∷ []) (replicate 4096 0x5A)))
+    ∷ refuses (right "22 C0" "31 32 10" (p ++ replicate 4097 0x5A)) parameter
     ∷ reads (right "22 C0" "31 32 80" (eight ++ replicate 4096 0x5A)) (install h (rightWith key (Kept 0x3132) eightHashes (replicate 4096 0x5A)))
     ∷ refuses (right "22 C0" "31 32 80" (eight ++ replicate 4097 0x5A)) parameter
     -- a count that is not 0 without its bit, in kinds 2 and 5; with the number 0 none is kept, and with the bit every number is one
     ∷ refuses (right "22 80" "00 01 10" (p ++ hex "51")) parameter
-    ∷ refuses (right "22 80" "01 00 00" (hex "51")) parameter
+    ∷ refuses (right "22 80" "01 00 10" (p ++ hex "51")) parameter
     ∷ reads (right "22 80" "00 00 10" (p ++ hex "51")) (install h (rightWith key NoneKept (p ∷ []) (hex "51")))
     ∷ reads (right "22 C0" "FF FF 10" (p ++ hex "51")) (install h (rightWith key (Kept 65535) (p ∷ []) (hex "51")))
     ∷ refuses (hex "25 80 00 0C" ++ h ++ hex "00 01") parameter
@@ -263,5 +269,7 @@ pub record Hold : Type 0 where
   pub kind-bits : map kindNumber (hex "00" ∷ hex "1F" ∷ hex "E0" ∷ hex "30" ∷ hex "2A" ∷ []) ≡ 0 ∷ 31 ∷ 0 ∷ 16 ∷ 10 ∷ []
   -- PROFILE 3.3: the high half of the hash byte, after key and count
   pub hash-counts : map (λ b. hashCountAt18 (replicate 18 0x00 ++ (b ∷ []))) (0x0F ∷ 0x10 ∷ 0x8F ∷ 0xFF ∷ []) ≡ 0 ∷ 1 ∷ 8 ∷ 15 ∷ []
+  -- PROFILE 5.2: it is not 0
+  pub some-hash : map (λ b. sendsHash (replicate 18 0x00 ++ (b ∷ []))) (0x00 ∷ 0x0F ∷ 0x10 ∷ 0x80 ∷ []) ≡ false ∷ false ∷ true ∷ true ∷ []
   pub read : map (λ c. readRequest (c .0)) cases ≡ map (λ c. c .1) cases
   pub write : joined (map (λ c. written (c .1)) requests) ≡ map (λ c. c .0) requests

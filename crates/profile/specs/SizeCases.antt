@@ -3,16 +3,19 @@ use mathlib.Core.List.{List, [], _∷_}
 use lib.ListN.{replicate}
 use Rattle.profile.specs.Bytes.{Bytes}
 use Rattle.profile.specs.Slot.{Kept, Right, rightWith, reserved, enabled, disabled, empty, taken, RightFits, SlotFits, TableFits}
-use Rattle.profile.specs.Request.{setup, install, retrieve, rek, enable, remove, cancel, list, info, RequestFits}
+use Rattle.profile.specs.Request.{setup, install, retrieve, rek, enable, remove, cancel, list, info, Installable, RequestFits}
 use Rattle.profile.specs.CaseBytes.{hex, H1, H2, K, A, B}
 
 -- a right of these
 abbrev pub of : Bytes → List Bytes → Bytes → Right
 of key hashes payload = rightWith key (Kept 7) hashes payload
 
--- the least right, and the greatest
+-- the least right, the least that can be installed, and the greatest
 abbrev pub least : Right
 least = of K [] (hex "BC")
+
+abbrev pub leastSent : Right
+leastSent = of K (A ∷ []) (hex "BC")
 
 abbrev pub most : Right
 most = of K (A ∷ B ∷ A ∷ B ∷ A ∷ B ∷ A ∷ B ∷ []) (replicate 4096 0x5A)
@@ -61,6 +64,11 @@ pub record Hold : Type 0 where
   pub table-fits : TableFits (empty ∷ taken H1 (reserved 1) ∷ taken H2 (enabled least) ∷ [])
   pub first-bad : ¬ TableFits (taken H1 (reserved 0) ∷ empty ∷ [])
   pub last-bad : ¬ TableFits (empty ∷ taken H1 (reserved 0) ∷ [])
+  -- PROFILE 5.2: what can be installed: what fits, and has a hash
+  pub least-sent : Installable leastSent
+  pub most-sent : Installable most
+  pub no-hash : ¬ Installable least
+  pub not-fitting : ¬ Installable (of K (A ∷ []) [])
   -- requests
   pub setup-fits : RequestFits (setup H1 0)
   pub install-fits : RequestFits (install H1 most)
@@ -72,8 +80,9 @@ pub record Hold : Type 0 where
   pub list-fits : RequestFits (list 0 (most .hashes))
   pub info-fits : RequestFits (info H1)
   pub setup-9 : ¬ RequestFits (setup H9 5)
-  pub install-9 : ¬ RequestFits (install H9 least)
-  pub install-0 : ¬ RequestFits (install H1 (of K [] []))
+  pub install-9 : ¬ RequestFits (install H9 leastSent)
+  pub install-0 : ¬ RequestFits (install H1 (of K (A ∷ []) []))
+  pub install-bare : ¬ RequestFits (install H1 least)
   pub retrieve-9 : ¬ RequestFits (retrieve H9 H2)
   pub retrieve-11 : ¬ RequestFits (retrieve H1 H11)
   pub rek-9 : ¬ RequestFits (rek H9 H2)

@@ -42,7 +42,7 @@ abbrev pub setup1 : Bytes
 setup1 = hex "21 80 00 0C" ++ H1 ++ hex "00 05"
 
 abbrev pub install1 : Bytes
-install1 = hex "22 80 00 22" ++ H1 ++ K ++ hex "00 00 00" ++ five
+install1 = hex "22 80 00 36" ++ H1 ++ K ++ hex "00 00 10" ++ A ++ five
 
 abbrev pub setup3 : Bytes
 setup3 = hex "21 80 00 0C" ++ H3 ++ hex "00 01"

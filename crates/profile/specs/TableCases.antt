@@ -8,7 +8,7 @@ use Rattle.profile.specs.Bytes.{Bytes}
 use Rattle.profile.specs.Slot.{NoneKept, Kept, keptBit, countNumber, countHolds, countWith, Right, rightWith, recount, reserved, enabled, disabled, Slot, empty, taken, inUse, distinct}
 use Rattle.profile.specs.Table.{placeOf, hashCountOf, keptOf, spareOf, unpack, pack, slotsOf, tableOf, wholeSlots, wellSlot, wellTable}
 use Rattle.profile.specs.CaseBytes.{hex, changed, H0, H1, H2, H3, H1-last, H1-first, K, L, A, B, five}
-use Rattle.profile.specs.CaseTables.{blank, after1, after7, after9, after11, counted7, lent7, usedUp, roomy, longest, hashed1, hashed2, lent2, hashed8, nameless, keyless, twins}
+use Rattle.profile.specs.CaseTables.{blank, after1, after7, after9, after11, counted7, lent7, usedUp, bare, bareLent, roomy, longest, hashed1, hashed2, lent2, hashed8, nameless, keyless, twins}
 
 -- ---- PROFILE 2.1: lengths, and whether they are those of 1 to 15 slots
 abbrev pub lengths : List (ℕ × Bool)
@@ -32,9 +32,10 @@ unfoldable pub shapes : List (Bytes × Bool)
 shapes =
     -- the spare bit and byte 191
     ill (changed 0 0x41 after1)
-    ∷ ill (changed 0 0x81 after7)
-    ∷ ill (changed 0 0xC1 after9)
-    ∷ ill (changed 0 0x83 counted7)
+    ∷ ill (changed 0 0x85 after7)
+    ∷ ill (changed 0 0x81 bare)
+    ∷ ill (changed 0 0xC5 after9)
+    ∷ ill (changed 0 0x87 counted7)
     ∷ ill (changed 191 0x01 after1)
     ∷ ill (changed 191 0x80 after7)
     ∷ ill (changed 191 0x01 hashed8)
@@ -45,7 +46,10 @@ shapes =
     -- zeros after the last hash
     ∷ well hashed2
     ∷ well lent2
-    ∷ ill (changed 31 0x01 after7)
+    ∷ ill (changed 31 0x01 bare)
+    ∷ ill (changed 190 0x01 bare)
+    ∷ ill (changed 50 0x01 bareLent)
+    ∷ ill (changed 51 0x01 after7)
     ∷ ill (changed 190 0x01 after7)
     ∷ ill (changed 31 0x01 after1)
     ∷ ill (changed 51 0x01 hashed1)
@@ -88,21 +92,26 @@ shapes =
     ∷ well longest
     ∷ ill (changed 30 0x01 longest)
     ∷ ill (changed 192 0x00 (changed 30 0x00 lent2))
-    ∷ well (changed 0 0xC2 longest)
-    ∷ ill (changed 30 0x01 (changed 0 0xC2 longest))
+    ∷ well (changed 0 0xC6 longest)
+    ∷ ill (changed 30 0x01 (changed 0 0xC6 longest))
     -- the bit of a count: 1 with every number, also 0; 0 with the number 0 alone
     ∷ well after7
     ∷ well after9
     ∷ well counted7
     ∷ well lent7
     ∷ well usedUp
-    ∷ well (changed 0 0xC2 after9)
+    ∷ well (changed 0 0xC6 after9)
     ∷ well (changed 27 0xFF (changed 28 0xFF counted7))
-    ∷ ill (changed 0 0x80 counted7)
-    ∷ ill (changed 0 0xC0 lent7)
+    ∷ ill (changed 0 0x84 counted7)
+    ∷ ill (changed 0 0xC4 lent7)
     ∷ ill (changed 0 0xC8 lent2)
     ∷ ill (changed 27 0x01 after7)
     ∷ ill (changed 28 0x01 after9)
+    -- PROFILE 2.9: no hash, enabled or disabled, with a count or without
+    ∷ well bare
+    ∷ well bareLent
+    ∷ well (changed 0 0x82 bare)
+    ∷ well (changed 0 0xC2 bareLent)
     -- PROFILE 2.6: a key of zeros; the same hash twice
     ∷ well keyless
     ∷ well twins
@@ -150,15 +159,17 @@ slots =
     ∷ (after1, taken H1 (reserved 5))
     ∷ (roomy, taken H1 (reserved 4096))
     ∷ (nameless, taken H0 (reserved 5))
-    ∷ (after7, taken H1 (enabled (rightWith K NoneKept [] five)))
-    ∷ (after9, taken H2 (disabled (rightWith K NoneKept [] five)))
-    ∷ (counted7, taken H1 (enabled (rightWith K (Kept 7) [] five)))
-    ∷ (lent7, taken H2 (disabled (rightWith K (Kept 7) [] five)))
-    ∷ (usedUp, taken H2 (enabled (rightWith K (Kept 0) [] five)))
+    ∷ (after7, taken H1 (enabled (rightWith K NoneKept (A ∷ []) five)))
+    ∷ (after9, taken H2 (disabled (rightWith K NoneKept (A ∷ []) five)))
+    ∷ (counted7, taken H1 (enabled (rightWith K (Kept 7) (A ∷ []) five)))
+    ∷ (lent7, taken H2 (disabled (rightWith K (Kept 7) (A ∷ []) five)))
+    ∷ (usedUp, taken H2 (enabled (rightWith K (Kept 0) (A ∷ []) five)))
+    ∷ (bare, taken H1 (enabled (rightWith K NoneKept [] five)))
+    ∷ (bareLent, taken H2 (disabled (rightWith K NoneKept [] five)))
     ∷ (hashed1, taken H3 (enabled (rightWith L (Kept 258) (A ∷ []) (hex "BC"))))
     ∷ (hashed2, taken H3 (enabled (rightWith L (Kept 258) (A ∷ B ∷ []) (hex "BC"))))
     ∷ (lent2, taken H3 (disabled (rightWith L (Kept 258) (A ∷ B ∷ []) (hex "BC"))))
-    ∷ (longest, taken H1 (enabled (rightWith K (Kept 7) [] (replicate 4096 0x5A))))
+    ∷ (longest, taken H1 (enabled (rightWith K (Kept 7) (A ∷ []) (replicate 4096 0x5A))))
     ∷ []
 
 -- ---- these are what the definitions say

@@ -10,7 +10,7 @@ use Rattle.profile.specs.Tally.{Tally, tallyWith, inSlot, plus, tallyOf,
 use Rattle.profile.specs.Agent.{Call}
 use Rattle.profile.specs.Run.{blankTable, numbersThen}
 use Rattle.profile.specs.CaseBytes.{hex, changed, renamed, H1, H2, H3, H4, K, L, A, B, five}
-use Rattle.profile.specs.CaseTables.{blank, after1, after7, after9, counted7, hashed2, lent2, roomy, longest, waiting}
+use Rattle.profile.specs.CaseTables.{blank, after1, after7, after9, counted7, bare, bareLent, hashed2, lent2, roomy, longest, waiting}
 use Rattle.profile.specs.StartCases.{calling, setup1, install1, remove1, blank1, right5}
 use Rattle.profile.specs.Tallies.{Carries}
 
@@ -32,6 +32,7 @@ tables =
     ∷ (after7, tallyWith 0 0 1 0 5)
     ∷ (longest, tallyWith 0 0 1 0 4096)
     ∷ (after9, tallyWith 0 0 0 1 5)
+    ∷ (bare ++ bareLent, tallyWith 0 0 1 1 10)
     ∷ (lent2, tallyWith 0 0 0 1 1)
     ∷ (blank ++ after7 ++ blank ++ blank ++ after9 ++ waiting ++ hashed2, tallyWith 3 1 2 1 11)
     ∷ (roomy ++ waiting ++ blank, tallyWith 1 2 0 0 0)
@@ -49,7 +50,7 @@ workings =
     ∷ (replicate 68608 0, (tallyWith 1 2 3 4 5, tallied 102 (tallyWith 1 2 3 4 5)))
     -- 103: a slot that is not well formed, a count without its bit, one handle in two slots
     ∷ (blank ++ changed 191 0x01 after7, (tallyWith 1 2 3 4 5, tallied 103 (tallyWith 1 2 3 4 5)))
-    ∷ (changed 0 0x80 counted7, (tallyWith 1 2 3 4 5, tallied 103 (tallyWith 1 2 3 4 5)))
+    ∷ (changed 0 0x84 counted7, (tallyWith 1 2 3 4 5, tallied 103 (tallyWith 1 2 3 4 5)))
     ∷ (after1 ++ after7, (tallyWith 1 2 3 4 5, tallied 103 (tallyWith 1 2 3 4 5)))
     ∷ []
 

@@ -3,14 +3,14 @@
 use Prim.Native.Nat.{ℕ, _≤_, _<_}
 use mathlib.Core.Path.{_≡_}
 use mathlib.Core.Logic.{_↔_}
-use mathlib.Core.List.{List, map}
+use mathlib.Core.List.{List, [], map}
 use mathlib.Core.Option.{some}
 use mathlib.Core.Bool.{true, false}
 use lib.Dec.{T, eqb, ltb}
 use lib.ListN.{length, drop, set, getElem?}
 use Rattle.profile.specs.Bytes.{Bytes, Bytes256, In, over, all, any}
 use Rattle.profile.specs.Sizes.{slotSize, replyRoom}
-use Rattle.profile.specs.Slot.{reserved, Slot, taken, distinct, SlotFits, TableFits}
+use Rattle.profile.specs.Slot.{Right, reserved, enabled, disabled, Slot, taken, distinct, SlotFits, TableFits}
 use Rattle.profile.specs.Table.{unpack, pack, wellSlot, slotBytes, slotCount, slotsOf, tableOf, wholeSlots, wellTable}
 use Rattle.profile.specs.Turning.{unpackBefore, keepsCount, Turned, turn}
 use Rattle.profile.specs.Tally.{tallyWith, inSlot, plus, tallyOf, tallyIn}
@@ -32,10 +32,12 @@ use Rattle.profile.specs.HistoryCases
 use Rattle.profile.specs.DemandCases
 use Rattle.profile.specs.StartCases
 use Rattle.profile.specs.TallyCases
+use Rattle.profile.specs.UnlistedCases
 use Rattle.profile.specs.Demand3.{Demand3}
 use Rattle.profile.specs.Starts.{AlikeButPlaces, OtherStart, OtherStarts, SameCall, SameRun}
 use Rattle.profile.specs.Tallies.{CountsAll, Carries}
-use Rattle.profile.specs.Run.{numbersThen, blankTable, ledgerThen}
+use Rattle.profile.specs.Unlisted.{OpenToUse, OpenToReturn, HoldsRight, HoldsRightBut, FoundByCourse}
+use Rattle.profile.specs.Run.{numbersThen, blankTable, tableAfterAll, ledgerThen}
 use Rattle.profile.specs.Laws.{Apart, Refuses, AStatus, FoundIs, Full, FirstEmpty, SetsFirst, ListsExactly}
 
 -- ---- the words of the theorems below
@@ -146,6 +148,16 @@ pub record Theorems : Type 0 where
       → u ≡ set t (firstEmptyFrom start t) (taken h (reserved n))
   pub lists-exactly : (free : ℕ) (t : List Slot) (limit : ℕ) (q : List Bytes) → (g : Given) × (act free t (list limit q) ≡ done g t) × ListsExactly limit q t g
   pub lists-only : (free : ℕ) (t : List Slot) (limit : ℕ) (q : List Bytes) (g : Given) → ListsExactly limit q t g → act free t (list limit q) ≡ done g t
+  -- PROFILE 2.9: a right on a card is listed, read, lent, retrieved, returned and removed whatever its hashes, and so where it has none
+  pub in-use : (free : ℕ) (t : List Slot) → distinct t ≡ true → (i : ℕ) (h : Bytes) (r : Right) → getElem? t i ≡ some (taken h (enabled r)) → OpenToUse free t i h r
+  pub when-lent : (free : ℕ) (t : List Slot) → distinct t ≡ true → (i : ℕ) (h : Bytes) (r : Right) → getElem? t i ≡ some (taken h (disabled r)) → OpenToReturn free t i h r
+  -- PROFILE 8.6: a right without a hash that stands on a card after a call stood there before it, in the same slot, if with another count
+  pub none-comes : (table : Bytes) → Bytes256 table → wholeSlots table ≡ true → wellTable table ≡ true → (c : Call) (i : ℕ) (r : Right)
+      → r .hashes ≡ [] → HoldsRight (slotsOf (agent table c .table)) i r → HoldsRightBut (slotsOf table) i r
+  -- from an all-zero table every right has a hash, and one that is enabled is found by each of its hashes
+  pub all-have-one : (n : ℕ) → 1 ≤ n → n ≤ 15 → (cs : List Call) (i : ℕ) (r : Right) → HoldsRight (slotsOf (tableAfterAll n cs)) i r → 1 ≤ length (r .hashes)
+  pub by-course : (n : ℕ) → 1 ≤ n → n ≤ 15 → (cs : List Call) (free i : ℕ) (h : Bytes) (r : Right) → getElem? (slotsOf (tableAfterAll n cs)) i ≡ some (taken h (enabled r))
+      → FoundByCourse free (slotsOf (tableAfterAll n cs)) h r
   -- PROFILE 9, and every rule in worked cases, table by table
   pub bytes-hold : BytesCases.Hold
   pub sizes-hold : SizeCases.Hold
@@ -161,6 +173,7 @@ pub record Theorems : Type 0 where
   pub demands-hold : DemandCases.Hold
   pub starts-hold : StartCases.Hold
   pub tallies-hold : TallyCases.Hold
+  pub unlisted-hold : UnlistedCases.Hold
   -- PROFILE 8.3, of every table of 1 to 15 slots and every sequence of calls
   pub demand-3 : (n : ℕ) → 1 ≤ n → n ≤ 15 → (cs : List Call) → Demand3 n cs
   -- PROFILE 8.4: only a setup depends on the start at all, and of it only the slot: calls and sequences of calls that differ in their starts alone, on tables

@@ -8,20 +8,24 @@ use Rattle.profile.specs.Bytes.{Bytes}
 use Rattle.profile.specs.Slot.{NoneKept, Kept, rightWith, reserved, enabled, disabled, Slot, empty, taken}
 use Rattle.profile.specs.Turning.{wellBefore, unpackBefore, turnSlot, Turned, turn, keepsCount}
 use Rattle.profile.specs.CaseBytes.{hex, changed, H1, H2, H3, H4, K, L, A, B, five}
-use Rattle.profile.specs.CaseTables.{blank, after1, after7, after9, counted7, lent7, usedUp, hashed2, lent2, hashed8, longest, waiting}
+use Rattle.profile.specs.CaseTables.{blank, after1, after7, after9, counted7, lent7, usedUp, bare, hashed2, lent2, hashed8, longest, waiting}
 
 -- ---- slots as they were: byte 0 without the bit, whatever the count
 abbrev pub old7 : Bytes
-old7 = changed 0 0x80 counted7
+old7 = changed 0 0x84 counted7
 
 abbrev pub oldLent7 : Bytes
-oldLent7 = changed 0 0xC0 lent7
+oldLent7 = changed 0 0xC4 lent7
 
 abbrev pub old2 : Bytes
 old2 = changed 0 0x88 hashed2
 
 abbrev pub old8 : Bytes
 old8 = changed 0 0xA0 hashed8
+
+-- without a hash
+abbrev pub oldBare : Bytes
+oldBare = changed 28 0x07 bare
 
 -- with a count whose low byte is 0
 abbrev pub oldHigh : Bytes
@@ -38,10 +42,12 @@ shapes =
     ∷ (oldLent7, true)
     ∷ (old2, true)
     ∷ (old8, true)
+    ∷ (bare, true)
+    ∷ (oldBare, true)
     -- either of the two spare bits
     ∷ (counted7, false)
     ∷ (usedUp, false)
-    ∷ (changed 0 0x81 old7, false)
+    ∷ (changed 0 0x85 old7, false)
     ∷ (changed 0 0x42 after1, false)
     ∷ (changed 0 0x02 blank, false)
     -- the rules that stay: hashes, the byte before the payload, zeros, lengths, a reservation's count
@@ -58,11 +64,12 @@ unfoldable pub slots : List (Bytes × Slot)
 slots =
     (blank, empty)
     ∷ (after1, taken H1 (reserved 5))
-    ∷ (after7, taken H1 (enabled (rightWith K NoneKept [] five)))
-    ∷ (after9, taken H2 (disabled (rightWith K NoneKept [] five)))
-    ∷ (old7, taken H1 (enabled (rightWith K (Kept 7) [] five)))
-    ∷ (oldHigh, taken H1 (enabled (rightWith K (Kept 256) [] five)))
-    ∷ (oldLent7, taken H2 (disabled (rightWith K (Kept 7) [] five)))
+    ∷ (after7, taken H1 (enabled (rightWith K NoneKept (A ∷ []) five)))
+    ∷ (after9, taken H2 (disabled (rightWith K NoneKept (A ∷ []) five)))
+    ∷ (old7, taken H1 (enabled (rightWith K (Kept 7) (A ∷ []) five)))
+    ∷ (oldHigh, taken H1 (enabled (rightWith K (Kept 256) (A ∷ []) five)))
+    ∷ (oldLent7, taken H2 (disabled (rightWith K (Kept 7) (A ∷ []) five)))
+    ∷ (oldBare, taken H1 (enabled (rightWith K (Kept 7) [] five)))
     ∷ (old2, taken H3 (enabled (rightWith L (Kept 258) (A ∷ B ∷ []) (hex "BC"))))
     ∷ []
 
@@ -77,9 +84,10 @@ unfoldable pub tables : List (Bytes × Turned)
 tables =
     -- each slot by itself: with a count and without, empty and reserved ones
     gives old7 counted7
-    ∷ gives oldHigh (changed 0 0x82 oldHigh)
+    ∷ gives oldHigh (changed 0 0x86 oldHigh)
+    ∷ gives oldBare (changed 0 0x82 oldBare)
     ∷ gives (oldLent7 ++ blank ++ old2 ++ waiting) (lent7 ++ blank ++ hashed2 ++ waiting)
-    ∷ gives (changed 0 0x80 longest) longest
+    ∷ gives (changed 0 0x84 longest) longest
     -- a table without a count stays as it is, and may be turned again
     ∷ gives (after7 ++ after9 ++ waiting) (after7 ++ after9 ++ waiting)
     ∷ gives blank blank

@@ -176,15 +176,19 @@ refusals =
     ∷ refuses 8 (with-hashes (p ++ hex "00") of8) 300 202
     ∷ refuses 8 (with-hashes (eight ++ p) of8) 300 202
     ∷ refuses 8 (with-hashes (eight ++ p) of8) 0 202
+    -- kind 2: no hash, also with a buffer too short
+    ∷ refuses 2 (with-hashes [] of2) 300 202
+    ∷ refuses 2 (with-hashes [] of2) 0 202
+    ∷ refuses 2 (with-hashes [] (with-count 0 (with-kept 0 of2))) 300 202
     -- kind 2: no payload, and one of 4,097 bytes
     ∷ refuses 2 (with-payload [] of2) 300 202
     ∷ refuses 2 (with-payload (replicate 4097 0x5A) of2) 4200 202
     ∷ []
 
--- hashes of none and eight, payloads of one and 4,096 bytes
+-- hashes of one and eight, payloads of one and 4,096 bytes; for kind 8 none is among the frames above
 unfoldable pub bounds : List Case
 bounds =
-    writes 2 (with-hashes [] (with-payload (hex "51") of2)) (hex "22 C0 00 1E" ++ h ++ key ++ hex "33 34 00 51")
+    writes 2 (with-payload (hex "51") of2) (hex "22 C0 00 32" ++ h ++ key ++ hex "33 34 10" ++ p ++ hex "51")
     ++ writes 2 (with-hashes eight of2) (hex "22 C0 00 BF" ++ h ++ key ++ hex "33 34 80" ++ eight ++ hex "51 52")
     ++ writes 8 (with-hashes eight of8) (hex "28 80 00 A3 35 36 08" ++ eight)
     ++ take 1 (writes 2 (with-payload (replicate 4096 0x5A) of2) (hex "22 C0 10 31" ++ h ++ key ++ hex "33 34 10" ++ p ++ replicate 4096 0x5A))
