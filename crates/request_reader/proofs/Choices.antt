@@ -1,12 +1,10 @@
 -- Tests and what the branches say of them: the sets for a `return` of a function whose contract goes by tests, and numbers that are no kind, or no kind with a count.
 -- Assumes nothing.
-use Prim.Native.Nat.{ℕ, zero, suc, _-_, _≤_, _<_}
+use Prim.Native.Nat.{ℕ, zero, suc}
 use mathlib.Core.Path.{_≡_, refl}
 use mathlib.Core.List.{List, [], _∷_}
 use mathlib.Core.Bool.{Bool, true, false, not}
 use mathlib.Core.Option.{none}
-use native.Mathlib.Omega.{arith}
-use lib.Dec.{ltb}
 use borrow.Author.Tests.{eq-eqb, ne-eqb, lt-ltb, le-ltb, le-leb, lt-leb, not-true, not-false}
 use Rattle.profile.specs.Slot.{countHolds}
 use Rattle.profile.specs.Frame.{kindOf}
@@ -14,12 +12,12 @@ use Rattle.profile.specs.Request.{sendsCount}
 
 pub ruleset tests = (eq-eqb, ne-eqb, lt-ltb, le-ltb, le-leb, lt-leb)
 
--- something is left after s, or nothing
-pub left-none : (n s : ℕ) → n ≤ s → ltb 0 (n - s) ≡ false
-left-none n s h = le-ltb 0 (n - s) (omega arith)
+-- a test that was made, and what it came to
+pub was-false : {b c : Bool} → b ≡ c → not b ≡ true → c ≡ false
+was-false {b = b} e t = rw (← e) (not-true b t)
 
-pub left-some : (n s : ℕ) → s < n → ltb 0 (n - s) ≡ true
-left-some n s h = lt-ltb 0 (n - s) (omega arith)
+pub was-true : {b c : Bool} → b ≡ c → not b ≡ false → c ≡ true
+was-true {b = b} e t = rw (← e) (not-false b t)
 
 -- the bit and the number of a count, as they were read: they say no count, or one
 pub no-count-said : {b m bit n : ℕ} {h : Bool} → b ≡ bit → m ≡ n → h ≡ countHolds b m → not h ≡ true → countHolds bit n ≡ false

@@ -1,3 +1,4 @@
 pub mod Choices
+mod InstallTests
 pub mod Meaning
 pub mod ByCase

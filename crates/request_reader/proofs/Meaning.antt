@@ -29,6 +29,11 @@ if-alike : {A B : Type 0} (R : A → B → Type 0) (b : Bool) {x y : A} {x' y' :
 if-alike R true p q = p refl
 if-alike R false p q = q refl
 
+-- a first test, taken in with three others
+first-in : (a b c d : Bool) → (a && ((b && c) && d)) ≡ (((a && b) && c) && d)
+first-in true b c d = refl
+first-in false b c d = refl
+
 -- a word, seen from a later offset
 word-from : (n at : ℕ) (f : Bytes) → word at (drop n f) ≡ word (n + at) f
 word-from n at f = ap₂ (λ (a b : ℕ). 256 * a + b) (getD-drop n f at 0) (getD-drop n f (at + 1) 0 ∙ ap (λ (i : ℕ). getD f i 0) (omega arith))
@@ -98,14 +103,18 @@ module _ (f : Bytes) (is : isFrame f ≡ true) where
   payload-size = rw (length-drop 14 f) (omega (arith, long))
 
   install-tests : fieldsHold Install f ≡ (installHolds n f && countHolds (keptAsked f) (word 30 f))
-  install-tests = rw (from-14, byte-32, payload-size, word-from 4 26 f)
+  install-tests =
+      rw (from-14, byte-32, payload-size, word-from 4 26 f)
+      (ap (λ (b : Bool). b && countHolds (keptAsked f) (word 30 f))
+      (first-in (leb 1 count) (leb count mostHashes) (eqb (byte 32 f % 16) 0) (from1to mostPayload (n - (29 + hashSize * count)))))
 
   install-ends : installHolds n f ≡ true → InstallEnds f count 33 (n - (29 + hashSize * count))
   install-ends h =
-      let p = and-parts (leb count mostHashes && eqb (byte 32 f % 16) 0) (from1to mostPayload (n - (29 + hashSize * count))) h in
+      let p = and-parts (leb 1 count && leb count mostHashes && eqb (byte 32 f % 16) 0) (from1to mostPayload (n - (29 + hashSize * count))) h in
+      let s = and-parts (leb 1 count && leb count mostHashes) (eqb (byte 32 f % 16) 0) (p .0) in
       let q = from-1-to-says mostPayload (n - (29 + hashSize * count)) (p .1) in
       record {
-        few = leb-le count mostHashes (and-parts (leb count mostHashes) (eqb (byte 32 f % 16) 0) (p .0) .0);
+        few = leb-le count mostHashes (and-parts (leb 1 count) (leb count mostHashes) (s .0) .1);
         least = q .0;
         most = q .1;
         ends = omega (arith, long, q .0);

@@ -43,10 +43,11 @@ tested fits v a =
     else if eqb v 0 then refusal why.Integrity
     else a
 
--- kind 2: 2 where the hash count is over 8, one of the 4 zero bits is set, or the payload is not 1 to 4,096 bytes long
+-- kind 2: 2 where the hash count is 0 or over 8, one of the 4 zero bits is set, or the payload is not 1 to 4,096 bytes long
 abbrev pub installHolds : ℕ → Bytes → Bool
 installHolds n f =
-    leb (byte 32 f / 16) mostHashes
+    leb 1 (byte 32 f / 16)
+    && leb (byte 32 f / 16) mostHashes
     && eqb (byte 32 f % 16) 0
     && from1to mostPayload (n - (29 + hashSize * (byte 32 f / 16)))
 

@@ -8,10 +8,11 @@ use profile::sizes::HASH_BYTES;
 use profile::sizes::MOST_HASHES;
 use profile::sizes::MOST_PAYLOAD;
 ghost use mathlib.Core.Path.{_≡_};
+ghost use mathlib.Core.Bool.{_&&_};
 ghost use Prim.Native.Nat.{_+_, _*_, _≤_};
 ghost use lib.ListN.{length};
 ghost use lib.Dec.{eqb, leb};
-ghost use Rattle.profile.specs.Sizes.{handleSize};
+ghost use Rattle.profile.specs.Sizes.{handleSize, mostHashes};
 ghost use Rattle.profile.specs.Frame.{kindOf};
 ghost use Rattle.profile.specs.Bytes.{word};
 ghost use Rattle.profile.specs.declared.Count.the-variants.{NoneKept};
@@ -140,13 +141,20 @@ fn install_count(f: &[u8], hashes: usize, payload: usize) -> Asked
     crate::asked::with_right(f, count, hashes, payload)
 }
 
+// The hash count of kind 2: a course is found by its hashes, so it comes with one at least.
+fn hashes_fit(n: usize) -> bool
+    ensures { λ r. ⌜ r ≡ (leb 1 n && leb n mostHashes) ⌝ }
+{
+    (1 <= n) & (n <= MOST_HASHES)
+}
+
 // The field tests of kind 2 (PROFILE 5.2), on a body of 30 bytes or more.
 fn install_fields(f: &[u8], n: usize) -> Asked
     requires { ⌜ (length (now f) ≡ 4 + n) × (30 ≤ n) ⌝ }
     ensures { λ r. ⌜ r ≡ ofInstall n (now (f .entry)) ⌝ }
 {
     let hashes = wide(bits::fields::hash_count_of(f[32]));
-    if hashes > MOST_HASHES {
+    if !hashes_fit(hashes) {
         return crate::asked::refuse(Why::Parameter);
     }
     if bits::fields::hash_count_rest(f[32]) != 0 {
