@@ -35,7 +35,7 @@ module _ (f : Fields) (w : Bool) (kind : ℕ) where
   pub payload-short : kind ≡ 2 → (w && kindAllows (kindOf kind) f) ≡ true → length (f .payload) ≤ mostPayload
   payload-short k e =
       let p = and-parts w (kindAllows (kindOf 2) f) (rw k at e) .1 in
-      from-1-to-says mostPayload (length (f .payload)) (and-parts (noNew f && noRoom f && noLimit f && countSays f) (from1to mostPayload (length (f .payload))) p .1) .1
+      from-1-to-says mostPayload (length (f .payload)) (and-parts (noNew f && noRoom f && noLimit f && countSays f && not (noHashes f)) (from1to mostPayload (length (f .payload))) p .1) .1
 
   says : countSays f ≡ true → (f .kept < 2) × (countHolds (f .kept) (f .count) ≡ true)
   says e =
@@ -45,8 +45,9 @@ module _ (f : Fields) (w : Bool) (kind : ℕ) where
   pub install-says : kind ≡ 2 → (w && kindAllows (kindOf kind) f) ≡ true → (f .kept < 2) × (countHolds (f .kept) (f .count) ≡ true)
   install-says k e =
       let p = and-parts w (kindAllows (kindOf 2) f) (rw k at e) .1 in
-      let q = and-parts (noNew f && noRoom f && noLimit f && countSays f) (from1to mostPayload (length (f .payload))) p .0 in
-      says (and-parts (noNew f && noRoom f && noLimit f) (countSays f) q .1)
+      let q = and-parts (noNew f && noRoom f && noLimit f && countSays f && not (noHashes f)) (from1to mostPayload (length (f .payload))) p .0 in
+      let s = and-parts (noNew f && noRoom f && noLimit f && countSays f) (not (noHashes f)) q .0 in
+      says (and-parts (noNew f && noRoom f && noLimit f) (countSays f) s .1)
 
   pub enable-says : kind ≡ 5 → (w && kindAllows (kindOf kind) f) ≡ true → (f .kept < 2) × (countHolds (f .kept) (f .count) ≡ true)
   enable-says k e =

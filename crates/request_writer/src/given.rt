@@ -70,7 +70,7 @@ fn count_says(count: u16, kept: u8) -> bool
 }
 
 // The kind must be 1 to 9, and every field that it lacks must be empty or zero; kinds 2 and 5 must say a count, and kind 2 must have a
-// payload that fits.
+// hash, by which its course is found, and a payload that fits.
 pub fn kind_allows(kind: u8, p: Plain, hashes: &[u8], payload: &[u8]) -> bool
     ensures { λ r. ⌜ r ≡ kindAllows (kindOf kind) (fieldsOf p (now (hashes .entry)) (now (payload .entry))) ⌝ }
 {
@@ -89,7 +89,7 @@ pub fn kind_allows(kind: u8, p: Plain, hashes: &[u8], payload: &[u8]) -> bool
     let says = count_says(p.count, p.kept);
     match kind {
         1 => no_new & no_key & no_count & no_limit & no_hashes & no_payload,
-        2 => no_new & no_room & no_limit & says & fits,
+        2 => no_new & no_room & no_limit & says & !no_hashes & fits,
         3 => no_key & no_room & no_count & no_limit & no_hashes & no_payload,
         4 => no_key & no_room & no_count & no_limit & no_hashes & no_payload,
         5 => no_new & no_key & no_room & no_limit & no_hashes & no_payload & says,
