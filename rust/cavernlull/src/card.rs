@@ -135,9 +135,9 @@ impl<T: AsRef<[u8]> + AsMut<[u8]>> Card<T> {
     ///
     /// # Errors
     ///
-    /// [`Error::Write`] where the request has too many hashes or a payload of
-    /// a wrong length; [`Error::Call`] where the bytes are not a well-formed
-    /// table, or have another tally than the one
+    /// [`Error::Write`] where an installation has no hash, where there are too
+    /// many, or where a payload has a wrong length; [`Error::Call`] where the
+    /// bytes are not a well-formed table, or have another tally than the one
     /// [handed in](Card::with_tally). Nothing is changed then.
     pub fn call(&mut self, request: &Request, verdict: Verdict) -> Result<Reply, Error> {
         self.call_from(0, request, verdict)

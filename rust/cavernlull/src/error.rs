@@ -3,6 +3,7 @@
 //!
 //! A refusal leaves all lent memory as it was.
 
+use crate::{Kind, Request, MOST_HASHES};
 use std::error;
 use std::fmt;
 
@@ -37,13 +38,34 @@ pub enum CallError {
 }
 
 /// The request writer did not write: the buffer is as it was.
+///
+/// Where a request has several of the faults that give 202, the error is the
+/// first of them in the order below. 201 is for a request without them.
+///
+/// ```
+/// use cavernlull::{AssetHash, Handle, Request, Right, WriteError};
+///
+/// let install = |hashes, payload| {
+///     let right = Right { hashes, payload, ..Right::default() };
+///     Request::RightsInstallation { handle: Handle([1; 10]), right }.to_frame()
+/// };
+/// let hash = AssetHash([7; 20]);
+/// assert_eq!(install(vec![], vec![]), Err(WriteError::NoHash));
+/// assert_eq!(install(vec![hash; 9], vec![]), Err(WriteError::TooManyHashes));
+/// assert_eq!(install(vec![hash], vec![]), Err(WriteError::PayloadLength));
+/// assert!(install(vec![hash], b"course".to_vec()).is_ok());
+/// ```
 #[derive(Clone, Copy, Debug, PartialEq, Eq, Hash)]
 pub enum WriteError {
     /// 201: the frame does not fit into the buffer.
     BufferShort,
-    /// 202: there are more than 8 hashes, or a payload that is not 1 to 4,096
-    /// bytes.
-    Fields,
+    /// 202: the installation has no asset hash. A course is found by its
+    /// hashes, so each is installed with one at least (PROFILE 5.2).
+    NoHash,
+    /// 202: the installation or the list query has more than 8 hashes.
+    TooManyHashes,
+    /// 202: the payload of the installation is not 1 to 4,096 bytes.
+    PayloadLength,
 }
 
 /// 203: the bytes are not the frame of a reply.
@@ -125,18 +147,30 @@ impl WriteError {
     pub const fn number(self) -> u16 {
         match self {
             WriteError::BufferShort => 201,
-            WriteError::Fields => 202,
+            WriteError::NoHash | WriteError::TooManyHashes | WriteError::PayloadLength => 202,
         }
     }
 
-    /// What a number from the archive means.
-    pub(crate) fn of(number: u16) -> Result<(), WriteError> {
+    /// What a number from the archive means, where it was asked to write this
+    /// request.
+    pub(crate) fn of(number: u16, request: &Request) -> Result<(), WriteError> {
         Err(match number {
             0 => return Ok(()),
             201 => WriteError::BufferShort,
-            202 => WriteError::Fields,
+            202 => WriteError::of_fields(request),
             _ => unknown(number),
         })
+    }
+
+    /// Why the archive does not take the fields of this request. That it does
+    /// not is the archive's word; with the types of this crate there are only
+    /// these three reasons.
+    fn of_fields(request: &Request) -> WriteError {
+        match (request.kind(), request.hashes().len()) {
+            (Kind::RightsInstallation, 0) => WriteError::NoHash,
+            (_, hashes) if hashes > MOST_HASHES => WriteError::TooManyHashes,
+            _ => WriteError::PayloadLength,
+        }
     }
 }
 
@@ -231,9 +265,11 @@ impl fmt::Display for WriteError {
     fn fmt(&self, f: &mut fmt::Formatter<'_>) -> fmt::Result {
         f.write_str(match self {
             WriteError::BufferShort => "the request does not fit into the buffer",
-            WriteError::Fields => {
-                "the request has more than 8 hashes, or a payload that is not 1 to 4,096 bytes"
+            WriteError::NoHash => {
+                "the installation has no asset hash, by which its course would be found"
             }
+            WriteError::TooManyHashes => "the request has more than 8 asset hashes",
+            WriteError::PayloadLength => "the payload of the installation is not 1 to 4,096 bytes",
         })
     }
 }

@@ -21,12 +21,14 @@
 //! # Example
 //!
 //! ```
-//! use cavernlull::{Card, Handle, Reply, Request, Right, Status, Verdict};
+//! use cavernlull::{AssetHash, Card, Handle, Reply, Request, Right, Status, Verdict};
 //!
 //! # fn main() -> Result<(), cavernlull::Error> {
 //! let course = Handle([1; 10]);
 //! let lent = Handle([2; 10]);
+//! let asset = AssetHash([7; 20]);
 //! let right = Right {
+//!     hashes: vec![asset],
 //!     payload: b"course".to_vec(),
 //!     ..Right::default()
 //! };
@@ -38,6 +40,11 @@
 //!     let reply = card.call(&request, Verdict::Held)?;
 //!     assert_eq!(reply.status(), Status::Success);
 //! }
+//!
+//! // The course is found by the hash of its asset.
+//! let query = Request::HandleListQuery { limit: 0, hashes: vec![asset] };
+//! let found = Reply::Handles { handles: vec![course], more: false };
+//! assert_eq!(card.call(&query, Verdict::Held)?, found);
 //!
 //! // The right is lent once. The second time, no right is under its handle.
 //! let lending = Request::RekQuery { handle: course, new_handle: lent };
@@ -124,7 +131,8 @@ pub const KEY_BYTES: usize = 16;
 /// The bytes of an asset hash.
 pub const HASH_BYTES: usize = 20;
 
-/// The most asset hashes of a right, or of a query.
+/// The most asset hashes of a right, or of a query. An installation has at least
+/// one.
 pub const MOST_HASHES: usize = 8;
 
 /// The bytes of the longest listing.

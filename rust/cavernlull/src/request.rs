@@ -17,7 +17,7 @@ pub enum Request {
     RightsInstallation {
         /// The handle of the reserved slot.
         handle: Handle,
-        /// The right.
+        /// The right. It has at least one hash, by which its course is found.
         right: Right,
     },
     /// Kind 3: lend the right under a new handle and give all of it.
@@ -58,7 +58,7 @@ pub enum Request {
         /// The most bytes of handles to be listed; 0 for no limit.
         limit: u16,
         /// Up to 8 hashes: only rights that have one of them are listed. With
-        /// no hashes, all rights are.
+        /// no hashes, all rights are, also those that have no hash themselves.
         hashes: Vec<AssetHash>,
     },
     /// Kind 9: give the count and the payload of a right for use.
@@ -84,12 +84,24 @@ impl Request {
         }
     }
 
+    /// The hashes that the request sends: those of an installation or of a list
+    /// query. No other kind has any.
+    pub(crate) fn hashes(&self) -> &[AssetHash] {
+        match self {
+            Request::RightsInstallation { right, .. } => &right.hashes,
+            Request::HandleListQuery { hashes, .. } => hashes,
+            _ => &[],
+        }
+    }
+
     /// The frame of the request, with the verdict that the MAC held.
     ///
     /// # Errors
     ///
-    /// [`WriteError::Fields`], for more than 8 hashes and for a payload that is
-    /// not 1 to 4,096 bytes.
+    /// [`WriteError::NoHash`] for an installation without a hash,
+    /// [`WriteError::TooManyHashes`] for more than 8 hashes, and
+    /// [`WriteError::PayloadLength`] for an installation whose payload is not 1
+    /// to 4,096 bytes.
     ///
     /// ```
     /// use cavernlull::{Handle, Request};
@@ -112,11 +124,11 @@ impl Request {
     ///
     /// # Errors
     ///
-    /// [`WriteError::Fields`], as for [`to_frame`](Request::to_frame), and
+    /// Those of [`to_frame`](Request::to_frame), and
     /// [`WriteError::BufferShort`]. The buffer is not changed then.
     pub fn write<'out>(&self, out: &'out mut [u8]) -> Result<&'out [u8], WriteError> {
         let number = archive::write_request(self.kind().number(), &self.fields(), out);
-        WriteError::of(number)?;
+        WriteError::of(number, self)?;
         Ok(archive::frame_in(out))
     }
 

@@ -17,14 +17,22 @@ pub struct Key(pub [u8; KEY_BYTES]);
 
 /// What a right holds, as it is installed and as it is retrieved.
 ///
+/// To be installed, a right needs at least one hash, since its course is found
+/// by its hashes. A right that a card gives may have none, if a version before
+/// 6.0.0 installed it (PROFILE 2.9). It is lent, returned and removed like any
+/// other, but it is not installed again
+/// ([`WriteError::NoHash`](crate::WriteError::NoHash)).
+///
 /// A right keeps a count, or it keeps none. A count that is used up is still a
 /// count:
 ///
 /// ```
-/// use cavernlull::{Card, Handle, Reply, Request, Right, Verdict};
+/// use cavernlull::{AssetHash, Card, Handle, Reply, Request, Right, Verdict};
 ///
 /// let (course, lent) = (Handle([1; 10]), Handle([2; 10]));
-/// let right = Right { count: Some(1), payload: b"course".to_vec(), ..Right::default() };
+/// let hashes = vec![AssetHash([7; 20])];
+/// let payload = b"course".to_vec();
+/// let right = Right { count: Some(1), hashes, payload, ..Right::default() };
 /// let mut card = Card::blank(1);
 /// for request in [
 ///     Request::InstallationSetup { handle: course, room: 6 },
@@ -45,7 +53,8 @@ pub struct Right {
     pub key: Key,
     /// The count: `None` where none is kept, `Some(0)` where it is used up.
     pub count: Option<u16>,
-    /// Up to 8 hashes of the assets that the right is for.
+    /// Hashes of the assets that the right is for: 1 to 8 to install it, up to
+    /// 8 where a card gives it.
     pub hashes: Vec<AssetHash>,
     /// The payload: 1 to 4,096 bytes, which neither card nor library interprets.
     pub payload: Vec<u8>,

@@ -76,7 +76,9 @@ fn errors_are_those_of_the_header() {
         ("START_OUTSIDE", CallError::StartOutside.number()),
         ("TALLY_DIFFERS", CallError::TallyDiffers.number()),
         ("WRITER_BUFFER_SHORT", WriteError::BufferShort.number()),
-        ("WRITER_FIELDS", WriteError::Fields.number()),
+        ("WRITER_FIELDS", WriteError::NoHash.number()),
+        ("WRITER_FIELDS", WriteError::TooManyHashes.number()),
+        ("WRITER_FIELDS", WriteError::PayloadLength.number()),
         ("NO_REPLY", ReadError.number()),
         ("TABLE_LENGTH", TurnError::TableLength.number()),
         (
@@ -128,10 +130,10 @@ fn a_tally_is_that_of_the_header() {
 /// A right with this count, installed in a slot.
 fn installed(count: Option<u16>) -> (Vec<u8>, Card) {
     let handle = Handle([1; 10]);
-    let payload = vec![7];
     let right = Right {
         count,
-        payload,
+        hashes: vec![AssetHash([9; 20])],
+        payload: vec![7],
         ..Right::default()
     };
     let installation = Request::RightsInstallation { handle, right };

@@ -25,6 +25,14 @@ fn installation(hashes: usize, payload: usize) -> Request {
     }
 }
 
+/// A list query by so many hashes.
+fn query(hashes: usize) -> Request {
+    Request::HandleListQuery {
+        limit: 0,
+        hashes: vec![AssetHash([9; 20]); hashes],
+    }
+}
+
 /// Asserts that a call from slot 0 is refused with this error, and that table
 /// and buffer stay as they were.
 fn assert_refused(table: &[u8], frame: &[u8], room: usize, error: CallError) {
@@ -139,8 +147,14 @@ fn a_call_with_a_request_refuses_likewise() {
     let mut card = Card::blank(16);
     let given = card.call(&setup(), Verdict::Held);
     assert_eq!(given, Err(Error::Call(CallError::TableLength)));
-    let given = card.call(&installation(9, 5), Verdict::Held);
-    assert_eq!(given, Err(Error::Write(WriteError::Fields)));
+    for (hashes, payload, error) in [
+        (0, 5, WriteError::NoHash),
+        (9, 5, WriteError::TooManyHashes),
+        (1, 0, WriteError::PayloadLength),
+    ] {
+        let given = card.call(&installation(hashes, payload), Verdict::Held);
+        assert_eq!(given, Err(Error::Write(error)));
+    }
 }
 
 #[test]
@@ -166,7 +180,7 @@ fn answer<T: AsRef<[u8]> + AsMut<[u8]>>(card: &mut Card<T>, frame: &[u8]) -> Vec
 #[test]
 fn a_count_without_its_bit_is_refused() {
     for (request, count_at) in [
-        (installation(0, 5), 30),
+        (installation(1, 5), 30),
         (
             Request::RightsEnablement {
                 handle: HANDLE,
@@ -205,7 +219,7 @@ fn the_bit_of_another_kind_is_refused() {
 #[test]
 fn a_table_has_no_count_without_its_bit() {
     let mut card = Card::blank(1);
-    for request in [setup(), installation(0, 5)] {
+    for request in [setup(), installation(1, 5)] {
         card.call(&request, Verdict::Held).unwrap();
     }
     let frame = setup().to_frame().unwrap();
@@ -221,7 +235,7 @@ fn a_table_has_no_count_without_its_bit() {
         assert_eq!(answer(&mut Card::over(&mut table), &frame), [0x21, 5, 0, 0]);
         table[0] |= 1;
         refused(&table);
-        (table[0], table[at]) = (0x80, 0);
+        (table[0], table[at]) = (0x84, 0);
     }
     let mut reserved = Card::blank(1);
     reserved.call(&setup(), Verdict::Held).unwrap();
@@ -251,14 +265,57 @@ fn statuses_are_replies_and_no_errors() {
     assert_eq!(ask(&[0x2A, 0x80, 0, 0]), [0x2A, 3, 0, 0]);
 }
 
+/// Asserts that a request is not written, for this reason, neither as a frame of
+/// its own nor into a buffer, which stays as it was. The reason comes before a
+/// buffer that is too short (PROFILE 6.2).
+fn assert_not_written(request: &Request, error: WriteError) {
+    assert_eq!(request.to_frame(), Err(error));
+    for room in [0, 40, REQUEST_ROOM + 200] {
+        let mut buffer = vec![0xA5; room];
+        assert_eq!(request.write(&mut buffer), Err(error));
+        assert!(buffer.iter().all(|&byte| byte == 0xA5));
+    }
+}
+
+/// Where there is more than one reason, a missing hash comes first, then too many
+/// of them, and the payload last.
 #[test]
-fn the_writer_refuses_fields_and_short_buffers() {
-    for (hashes, payload) in [(9, 5), (0, 0), (0, 4097)] {
-        let given = installation(hashes, payload).to_frame();
-        assert_eq!(given, Err(WriteError::Fields));
+fn the_writer_says_why_it_refuses_fields() {
+    for payload in [0, 1, 4096, 4097] {
+        assert_not_written(&installation(0, payload), WriteError::NoHash);
+        for hashes in [9, 15, 16, 256] {
+            assert_not_written(&installation(hashes, payload), WriteError::TooManyHashes);
+        }
+    }
+    for hashes in 1..=8 {
+        for payload in [0, 4097] {
+            assert_not_written(&installation(hashes, payload), WriteError::PayloadLength);
+        }
+    }
+    for hashes in [9, 15, 16, 256] {
+        assert_not_written(&query(hashes), WriteError::TooManyHashes);
+    }
+}
+
+#[test]
+fn the_writer_takes_1_to_8_hashes_and_in_a_query_none() {
+    for hashes in 1..=8 {
+        for payload in [1, 4096] {
+            let frame = installation(hashes, payload).to_frame().unwrap();
+            assert_eq!(frame.len(), 4 + 29 + 20 * hashes + payload);
+            assert_eq!(frame[32], 16 * hashes as u8);
+        }
+    }
+    for hashes in 0..=8 {
+        let frame = query(hashes).to_frame().unwrap();
+        assert_eq!(frame.len(), 4 + 3 + 20 * hashes);
     }
     let longest = installation(8, 4096).to_frame().unwrap();
     assert_eq!(longest.len(), REQUEST_ROOM);
+}
+
+#[test]
+fn the_writer_refuses_short_buffers() {
     let mut buffer = [0xA5; 40];
     let frame = setup().write(&mut buffer).unwrap().to_vec();
     assert_eq!(frame.len(), 16);
@@ -324,14 +381,20 @@ fn errors_are_errors_with_their_numbers() {
         CallError::TallyDiffers,
     ];
     let mut errors: Vec<Error> = calls.map(Error::from).to_vec();
-    errors.extend([WriteError::BufferShort, WriteError::Fields].map(Error::from));
+    let writes = [
+        WriteError::BufferShort,
+        WriteError::NoHash,
+        WriteError::TooManyHashes,
+        WriteError::PayloadLength,
+    ];
+    errors.extend(writes.map(Error::from));
     errors.push(ReadError.into());
     errors.extend([TurnError::TableLength, TurnError::TableNotWellFormed].map(Error::from));
     errors.extend([TallyError::TableLength, TallyError::TableNotWellFormed].map(Error::from));
     let numbers: Vec<u16> = errors.iter().map(|error| error.number()).collect();
     let (calls, others) = numbers.split_at(6);
     assert_eq!(calls, [101, 102, 103, 104, 105, 106]);
-    assert_eq!(others, [201, 202, 203, 102, 103, 102, 103]);
+    assert_eq!(others, [201, 202, 202, 202, 203, 102, 103, 102, 103]);
     for error in errors {
         let error: Box<dyn std::error::Error + Send + Sync> = error.into();
         assert!(error.to_string().starts_with("the "), "{error}");

@@ -1,6 +1,7 @@
 //! What moves a rotation, and what does not.
 
-use cavernlull::{CallError, Card, Error, Handle, Request, Right, Rotation, Status, Verdict};
+use cavernlull::{AssetHash, CallError, Card, Error, Handle, Request, Right, Rotation};
+use cavernlull::{Status, Verdict};
 use cavernlull::{MOST_SLOTS, REPLY_ROOM, SLOT_BYTES};
 
 fn handle(n: u8) -> Handle {
@@ -99,6 +100,7 @@ fn a_refused_setup_does_not_move_it() {
 fn no_other_kind_moves_it() {
     let (mut card, mut rotation) = blank(4);
     let right = Right {
+        hashes: vec![AssetHash([0xA1; 20])],
         payload: vec![7; 9],
         ..Right::default()
     };

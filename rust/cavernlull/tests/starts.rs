@@ -1,7 +1,7 @@
 //! Where a setup lands: in the first empty slot from the start upward and then
 //! from slot 0 up to the slot before it (PROFILE 5.1).
 
-use cavernlull::{Card, Handle, Kind, Reply, Request, Right, Status, Verdict};
+use cavernlull::{AssetHash, Card, Handle, Kind, Reply, Request, Right, Status, Verdict};
 use cavernlull::{MOST_SLOTS, REPLY_ROOM, SLOT_BYTES};
 
 const COURSE: Handle = Handle([0xC0; 10]);
@@ -25,6 +25,15 @@ fn slot(place: u8, handle: Handle) -> Vec<u8> {
         slot[30] = 9;
     }
     slot
+}
+
+/// A right with a hash and this payload.
+fn right(payload: Vec<u8>) -> Right {
+    Right {
+        hashes: vec![AssetHash([0xA1; 20])],
+        payload,
+        ..Right::default()
+    }
 }
 
 /// The handle of the record in a slot.
@@ -114,10 +123,7 @@ fn a_list_is_in_the_order_of_the_slots() {
     let mut card = Card::blank(4);
     for n in 1..=4 {
         let handle = Handle([n; 10]);
-        let right = Right {
-            payload: vec![n],
-            ..Right::default()
-        };
+        let right = right(vec![n]);
         let installation = Request::RightsInstallation { handle, right };
         for request in [setup(handle), installation] {
             let reply = card.call_from(2, &request, Verdict::Held).unwrap();
@@ -141,10 +147,7 @@ fn nothing_but_a_setup_depends_on_the_start() {
     let places = [EMPTY, RESERVED, ENABLED, EMPTY, DISABLED, EMPTY];
     let (reserved, enabled, disabled) = (name(1), name(2), name(4));
     let (handle, new_handle) = (enabled, COURSE);
-    let right = Right {
-        payload: vec![7; 9],
-        ..Right::default()
-    };
+    let right = right(vec![7; 9]);
     let (limit, hashes, count) = (0, vec![], Some(5));
     for request in [
         setup(enabled),

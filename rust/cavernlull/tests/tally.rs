@@ -145,13 +145,17 @@ type Case = (Vec<u8>, Vec<u8>, [u16; 5]);
 const H1: [u8; 10] = [1; 10];
 const H2: [u8; 10] = [2; 10];
 const K: [u8; 16] = [1, 2, 3, 4, 5, 6, 7, 8, 9, 10, 11, 12, 13, 14, 15, 16];
+const A: [u8; 20] = [
+    0xA0, 0xA1, 0xA2, 0xA3, 0xA4, 0xA5, 0xA6, 0xA7, 0xA8, 0xA9, 0xAA, 0xAB, 0xAC, 0xAD, 0xAE, 0xAF,
+    0xB0, 0xB1, 0xB2, 0xB3,
+];
 const P5: [u8; 5] = [0xA1, 0xA2, 0xA3, 0xA4, 0xA5];
 
 /// The rows of case 20 of the card profile (PROFILE 9.5) up to the second
 /// return, by their bytes.
 fn case_20() -> [Case; 5] {
     let setup = [&[0x21, 0x80, 0, 0x0C][..], &H1, &[0, 5]].concat();
-    let installation = [&[0x22, 0x80, 0, 0x22][..], &H1, &K, &[0, 0, 0], &P5].concat();
+    let installation = [&[0x22, 0x80, 0, 0x36][..], &H1, &K, &[0, 0, 0x10], &A, &P5].concat();
     let lending = [&[0x24, 0x80, 0, 0x14][..], &H1, &H2].concat();
     let key = [&[0x24, 0, 0, 0x10][..], &K].concat();
     let returned = |count| [&[0x25, 0xC0, 0, 0x0C][..], &H2, &[0, count]].concat();

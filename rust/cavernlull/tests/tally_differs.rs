@@ -2,7 +2,7 @@
 //! nothing is changed (PROFILE 4.1). What a card does with a tally that was
 //! stored beside its table.
 
-use cavernlull::{CallError, Card, Error, Handle, Request, Right, Status, Verdict};
+use cavernlull::{AssetHash, CallError, Card, Error, Handle, Request, Right, Status, Verdict};
 use cavernlull::{Tally, TallyError, REPLY_ROOM, SLOT_BYTES};
 
 /// The numbers of the table below.
@@ -42,6 +42,7 @@ fn requests() -> Vec<Request> {
     let (handle, new_handle) = (Handle([1; 10]), Handle([9; 10]));
     let (reserved, disabled) = (Handle([2; 10]), Handle([4; 10]));
     let right = Right {
+        hashes: vec![AssetHash([0xA1; 20])],
         payload: vec![7],
         ..Right::default()
     };

@@ -2,7 +2,7 @@
 //! tally, and after each call its five numbers are those counted from its bytes
 //! (PROFILE 8.5). They change in the ways of PROFILE 2.8 and in no other.
 
-use cavernlull::{CallError, Card, Handle, Request, Right, Tally};
+use cavernlull::{AssetHash, CallError, Card, Handle, Request, Right, Tally};
 use cavernlull::{MOST_SLOTS, REPLY_ROOM, SLOT_BYTES};
 use random::Rng;
 use std::collections::BTreeSet;
@@ -58,6 +58,7 @@ fn any_request(rng: &mut Rng, slots: usize) -> Request {
     let count = rng.one_in(2).then(|| rng.word());
     let right = Right {
         count,
+        hashes: vec![AssetHash([0xA1; 20]); 1 + rng.below(8)],
         payload: vec![7; rng.pick(&[1, 5, 300, 4096])],
         ..Right::default()
     };

@@ -4,7 +4,7 @@
 //!
 //! `cargo test --test wear -- --nocapture` shows the figures.
 
-use cavernlull::{Card, Handle, Request, Right, Rotation, Status, Verdict};
+use cavernlull::{AssetHash, Card, Handle, Request, Right, Rotation, Status, Verdict};
 use cavernlull::{MOST_SLOTS, SLOT_BYTES};
 use random::Rng;
 
@@ -62,6 +62,7 @@ impl Desk {
         assert_eq!(changed.len(), 1);
         self.taken[changed[0]] += 1;
         let right = Right {
+            hashes: vec![AssetHash(*b"SHA-1 of the course!")],
             payload: b"a course!".to_vec(),
             ..Right::default()
         };
