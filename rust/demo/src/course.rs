@@ -8,6 +8,8 @@ pub struct Step {
     pub title: &'static str,
     /// The request that does it.
     pub request: Request,
+    /// Where the writer refuses the request: bytes that are sent all the same.
+    pub bytes: Option<Vec<u8>>,
     /// The status of the reply.
     pub expected: Status,
     /// Why the card gives this answer.
@@ -33,10 +35,14 @@ fn step(title: &'static str, request: Request, expected: Status, why: &'static s
     Step {
         title,
         request,
+        bytes: None,
         expected,
         why,
     }
 }
+
+/// The hash of the module that all these courses have.
+const MODULE: AssetHash = AssetHash(*b"SHA-1 of one module ");
 
 /// The course itself: a key, how many uses, one module, and what the player
 /// reads.
@@ -44,7 +50,7 @@ fn right(uses: u16, text: &str) -> Right {
     Right {
         key: Key(*b"key of a course!"),
         count: Some(uses),
-        hashes: vec![AssetHash(*b"SHA-1 of one module ")],
+        hashes: vec![MODULE],
         payload: text.as_bytes().to_vec(),
     }
 }
@@ -69,6 +75,31 @@ fn install(handle: Handle, uses: u16, text: &str) -> Request {
         handle,
         right: right(uses, text),
     }
+}
+
+/// An installation without a hash. The writer refuses it, so its bytes are put
+/// together here.
+fn install_without_hash(handle: Handle, uses: u16, text: &str) -> Step {
+    let right = Right {
+        hashes: vec![],
+        ..right(uses, text)
+    };
+    let [high, low] = uses.to_be_bytes();
+    let head = [0x22, 0xC0, 0, 29 + text.len() as u8];
+    let fields = [&handle.0[..], &right.key.0, &[high, low, 0]].concat();
+    Step {
+        bytes: Some([&head, &fields[..], text.as_bytes()].concat()),
+        ..step(
+            "It is sent without the hash of its module",
+            Request::RightsInstallation { handle, right },
+            Status::ParameterFailed,
+            "The writer does not write it, and says why. Sent all the same, as bytes, it is refused by the card.",
+        )
+    }
+}
+
+fn list(hashes: Vec<AssetHash>) -> Request {
+    Request::HandleListQuery { limit: 0, hashes }
 }
 
 fn lend(handle: Handle, new_handle: Handle) -> Request {
@@ -158,8 +189,9 @@ fn removing() -> Vec<Step> {
     ]
 }
 
-/// A course is set up and installed.
+/// A course is set up and installed, with a hash and not without one.
 fn loading() -> Vec<Step> {
+    let text = "brazing, module 1";
     vec![
         step(
             "Room is set up for a course",
@@ -167,11 +199,18 @@ fn loading() -> Vec<Step> {
             Status::Success,
             "The search begins at slot 0, which is empty. It is reserved under the course's handle, with no payload yet.",
         ),
+        install_without_hash(COURSE, 10, text),
         step(
             "The course is installed",
-            install(COURSE, 10, "brazing, module 1"),
+            install(COURSE, 10, text),
             Status::Success,
-            "The right is enabled, and its length is now the payload's.",
+            "With its hash it is taken: the right is enabled, and its length is now the payload's.",
+        ),
+        step(
+            "Which course has this module?",
+            list(vec![MODULE]),
+            Status::Success,
+            "The course is found by its hash. Without one it would not be.",
         ),
         step(
             "Room for the same course once more",
@@ -184,10 +223,6 @@ fn loading() -> Vec<Step> {
 
 /// Another course is set up and installed, and both are listed.
 fn loading_another() -> Vec<Step> {
-    let list = Request::HandleListQuery {
-        limit: 0,
-        hashes: vec![],
-    };
     vec![
         step(
             "Room for another course",
@@ -203,7 +238,7 @@ fn loading_another() -> Vec<Step> {
         ),
         step(
             "What is for use?",
-            list,
+            list(vec![]),
             Status::Success,
             "Both courses, in the order of their slots.",
         ),

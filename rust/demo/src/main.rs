@@ -39,8 +39,15 @@ fn shown(
     rotation: &mut Rotation,
     step: &Step,
 ) -> Result<String, Error> {
-    let frame = step.request.to_frame()?;
-    let mut text = screen.frame("request", &frame, &asked(&step.request, rotation.start()));
+    let mut text = String::new();
+    let frame = match (step.request.to_frame(), &step.bytes) {
+        (Err(refused), Some(bytes)) => {
+            text += &screen.writer(refused);
+            bytes.clone()
+        }
+        (written, _) => written?,
+    };
+    text += &screen.frame("request", &frame, &asked(&step.request, rotation.start()));
     let mut buffer = [0; cavernlull::REPLY_ROOM];
     let answer = rotation.call_frame(card, &frame, &mut buffer)?;
     let reply = Reply::read(answer)?;
@@ -64,6 +71,15 @@ fn counted(count: Option<u16>) -> String {
     }
 }
 
+/// So many of these, in words.
+fn how_many(number: usize, what: &str, more: &str) -> String {
+    match number {
+        0 => format!("no {what}"),
+        1 => format!("1 {what}"),
+        _ => format!("{number} {more}"),
+    }
+}
+
 /// A request in words, with the slot at which a setup begins to look.
 fn asked(request: &Request, start: usize) -> String {
     let kind = request.kind();
@@ -73,9 +89,10 @@ fn asked(request: &Request, start: usize) -> String {
             format!("{kind}: keep {room} bytes under {name}, from slot {start} on")
         }
         Request::RightsInstallation { handle, right } => format!(
-            "{kind}: {} bytes with {} under {}",
+            "{kind}: {} bytes with {} and {} under {}",
             right.payload.len(),
             counted(right.count),
+            how_many(right.hashes.len(), "hash", "hashes"),
             name(handle)
         ),
         Request::RightsRetrieval { handle, new_handle }
@@ -92,7 +109,8 @@ fn asked(request: &Request, start: usize) -> String {
             format!("{kind}: every course for use")
         }
         Request::HandleListQuery { hashes, .. } => {
-            format!("{kind}: courses with one of {} modules", hashes.len())
+            let hashes = how_many(hashes.len(), "hash", "hashes");
+            format!("{kind}: courses for use, by {hashes}")
         }
     }
 }
@@ -108,11 +126,8 @@ fn answered(reply: &Reply) -> String {
         }
         Reply::Handles { handles, .. } => {
             let names: Vec<String> = handles.iter().map(name).collect();
-            format!(
-                "{status}, with {} handles: {}",
-                names.len(),
-                names.join(", ")
-            )
+            let handles = how_many(names.len(), "handle", "handles");
+            format!("{status}, with {handles}: {}", names.join(", "))
         }
         _ => status.to_string(),
     }
@@ -143,6 +158,26 @@ mod tests {
         let reply = text.split("and a count of 0\n").nth(1);
         let reply = reply.expect("one reply has it").trim_start();
         assert!(reply.starts_with("23 80 "), "{reply}");
+    }
+
+    /// An installation without a hash is refused by the writer, which says why,
+    /// and by the card. With its hash the course is installed and found by it.
+    #[test]
+    fn a_course_is_installed_with_its_hash_and_found_by_it() {
+        let text = walk(&Screen::new(false)).expect("it walks");
+        let steps: Vec<&str> = text.split("\n\n").collect();
+        let [without, with, found] = [2, 3, 4].map(|number| steps[number]);
+        assert!(without.contains("writer   202: the installation has no asset hash"));
+        assert!(
+            without.contains("and no hash under BRAZING-01"),
+            "{without}"
+        );
+        assert!(without.contains("Parameter Failed\n           22 02 00 00\n"));
+        assert!(without.contains("0 reserved 0 0 24\n"), "{without}");
+        assert!(with.contains("and 1 hash under BRAZING-01"), "{with}");
+        assert!(with.contains("0 enabled 1 10 17\n"), "{with}");
+        assert!(found.contains("Success, with 1 handle: BRAZING-01\n"));
+        assert_eq!(text.matches("202").count(), 1);
     }
 
     /// The slot of the first course is empty, and the next course comes into the

@@ -1,7 +1,7 @@
 //! What is shown: hex with its meaning beside it, tallies and listings. Colour is
 //! for terminals alone.
 
-use cavernlull::{Card, Tally};
+use cavernlull::{Card, Tally, WriteError};
 
 /// How many bytes of a frame are shown on one line.
 const LINE: usize = 20;
@@ -42,6 +42,12 @@ impl Screen {
             text += &format!("           {}\n", self.paint("36", &hex.join(" ")));
         }
         text
+    }
+
+    /// What the writer refuses, with its number.
+    pub fn writer(&self, refused: WriteError) -> String {
+        let meaning = format!("{}: {refused}", refused.number());
+        format!("  writer   {}\n", self.paint("31", &meaning))
     }
 
     /// A reply: green where it is a success, else red.
