@@ -1,7 +1,8 @@
 /* An ordinary C program that links libcavernlull.a, as a front end or a device does: one course on its way through a card of
  * two slots. It is set up, installed, listed, lent, refused a second time and under a handle in use, returned and removed. Then
- * it is set up with other starts, and in one slot after the other; it has a count of 1, which is used up and stays so; and it
- * is on an old card, whose table is turned. The card's tally is kept beside its table, and lent with each call.
+ * it is set up with other starts, and in one slot after the other; it has a count of 1, which is used up and stays so; it is
+ * refused without a hash, and used where a card holds it so; and it is on an old card, whose table is turned. The card's tally is
+ * kept beside its table, and lent with each call.
  *
  * Each step is checked against what the header promises: the number, every byte of the reply buffer, every byte of the table,
  * the five numbers of the tally, what the reply reader reads in the reply, and the listing. The expected bytes and numbers are
@@ -151,10 +152,12 @@ static void write_return(const uint8_t *handle, struct count count) {
                                    none, 0, frame, sizeof frame) == CAVERNLULL_DONE);
 }
 
-static void write_list(uint16_t limit) {
-    CHECK(cavernlull_write_request(CAVERNLULL_HANDLE_LIST_QUERY, none, none, none, 0, 0, 0, limit, none, 0, none, 0, frame,
-                                   sizeof frame) == CAVERNLULL_DONE);
+static void write_list_by(uint16_t limit, size_t hashes_length) {
+    CHECK(cavernlull_write_request(CAVERNLULL_HANDLE_LIST_QUERY, none, none, none, 0, 0, 0, limit, hashes, hashes_length, none,
+                                   0, frame, sizeof frame) == CAVERNLULL_DONE);
 }
+
+static void write_list(uint16_t limit) { write_list_by(limit, 0); }
 
 /* ---- the call: number, status and the bit of a kept count, body, the rest of the buffer, the table, its tally, and what the
  * reply reader reads in the reply */
@@ -386,6 +389,95 @@ static void counts(struct count first, struct count then) {
     done();
 }
 
+/* ---- rights without a hash: none is installed (PROFILE 5.2), and those that a card holds are used (PROFILE 2.9) */
+/* The number that the writer gives for an installation with this many bytes of hashes, into this much room. */
+static uint16_t write_hashes(size_t hashes_length, size_t room) {
+    return cavernlull_write_request(CAVERNLULL_RIGHTS_INSTALLATION, course, none, key, 0, 0, 0, 0, hashes, hashes_length, payload,
+                                    sizeof payload, frame, room);
+}
+
+/* An installation without a hash, by hand: the writer does not write it. */
+static void write_without_hash(void) {
+    static const uint8_t head[] = {0x22, 0x80, 0, 29 + sizeof payload};
+    memcpy(frame, head, sizeof head);
+    memcpy(frame + 4, course, sizeof course);
+    memcpy(frame + 14, key, sizeof key);
+    memset(frame + 30, 0, 3); /* no count, and the hash byte */
+    memcpy(frame + 33, payload, sizeof payload);
+}
+
+static void installs_none_without_a_hash(void) {
+    memset(frame, FILLER, sizeof frame);
+    CHECK(write_hashes(0, sizeof frame) == CAVERNLULL_WRITER_FIELDS);
+    CHECK(write_hashes(0, 0) == CAVERNLULL_WRITER_FIELDS);
+    CHECK(filled(frame, sizeof frame, FILLER));
+    write_without_hash();
+    refused(CAVERNLULL_PARAMETER_FAILED); /* before the handle is looked for */
+    write_plain(CAVERNLULL_INSTALLATION_SETUP, course, none, 300);
+    put_reserved(0, course, 300);
+    done();
+    write_without_hash();
+    refused(CAVERNLULL_PARAMETER_FAILED);
+    tallied(1, 1, 0, 0, 0);
+    frame[1] = 0; /* the front end: the MAC did not hold */
+    refused(CAVERNLULL_FIELD_INTEGRITY_VERIFICATION_FAILED);
+    CHECK(write_hashes(CAVERNLULL_HASH_BYTES, sizeof frame) == CAVERNLULL_DONE);
+    put_right(ENABLED, course, no_count);
+    expected[0] = ENABLED << 6 | 1 << 2;
+    memset(expected + 31 + CAVERNLULL_HASH_BYTES, 0, CAVERNLULL_HASH_BYTES); /* it has one hash, not two */
+    done();
+    tallied(1, 0, 1, 0, 7);
+}
+
+/* The course without its hashes, in slot 0. */
+static void put_old_right(enum place place, const uint8_t *handle) {
+    put_right(place, handle, no_count);
+    expected[0] = (uint8_t)(place << 6);
+    memset(expected + 31, 0, sizeof hashes);
+}
+
+/* It is on the list of all handles, and on none by hash. */
+static void lists_old_right(const uint8_t *handle) {
+    lists(handle);
+    write_list_by(0, sizeof hashes);
+    call(CAVERNLULL_SUCCESS, none, 1);
+    CHECK(fields[CAVERNLULL_REPLY_MORE] == 0 && fields[CAVERNLULL_REPLY_HANDLES] == 0);
+}
+
+static void retrieves_old_right(void) {
+    uint8_t body[16 + 2 + 1 + sizeof payload] = {0};
+    memcpy(body, key, sizeof key);
+    memcpy(body + 19, payload, sizeof payload);
+    write_plain(CAVERNLULL_RIGHTS_RETRIEVAL, borrower, course, 0);
+    put_old_right(DISABLED, course);
+    call(CAVERNLULL_SUCCESS, body, sizeof body);
+    CHECK(fields[CAVERNLULL_REPLY_HASHES] == 0 && fields[CAVERNLULL_REPLY_PAYLOAD_LENGTH] == sizeof payload);
+    CHECK(memcmp(reply + fields[CAVERNLULL_REPLY_PAYLOAD_AT], payload, sizeof payload) == 0);
+}
+
+/* Afterwards the card is empty. */
+static void uses_old_rights(void) {
+    put_old_right(ENABLED, course);
+    memcpy(table, expected, sizeof table);
+    tallied(1, 0, 1, 0, 7); /* hashes are not counted */
+    listed("0 enabled 0 0 7\n1 empty 0 0 0\n");
+    lists_old_right(course);
+    write_plain(CAVERNLULL_REK_QUERY, course, borrower, 0);
+    put_old_right(DISABLED, borrower);
+    call(CAVERNLULL_SUCCESS, key, sizeof key);
+    tallied(1, 0, 0, 1, 7);
+    write_return(borrower, no_count);
+    put_old_right(ENABLED, borrower);
+    done();
+    lists_old_right(borrower);
+    retrieves_old_right();
+    listed("0 disabled 0 0 7\n1 empty 0 0 0\n");
+    write_plain(CAVERNLULL_RIGHTS_REMOVAL, course, none, 0);
+    memset(expected, 0, sizeof expected);
+    done();
+    tallied(2, 0, 0, 0, 0);
+}
+
 /* ---- an old table, in which no count has a bit */
 /* The turning gives this number, and leaves the table as it was. */
 static void turning_leaves(uint16_t number, size_t table_length) {
@@ -535,6 +627,7 @@ static void writer_refusals(void) {
     CHECK(write_short(CAVERNLULL_RIGHTS_REMOVAL, 0, 0, 0) == CAVERNLULL_WRITER_BUFFER_SHORT);
     CHECK(write_short(CAVERNLULL_RIGHTS_REMOVAL, 0, 0, 1) == CAVERNLULL_WRITER_FIELDS);
     CHECK(write_short(CAVERNLULL_RIGHTS_REMOVAL, 0, 1, 0) == CAVERNLULL_WRITER_FIELDS);
+    CHECK(write_short(CAVERNLULL_RIGHTS_INSTALLATION, 0, 0, 0) == CAVERNLULL_WRITER_FIELDS);
     CHECK(write_short(10, 0, 0, 0) == CAVERNLULL_WRITER_FIELDS);
     CHECK(write_short(CAVERNLULL_RIGHTS_ENABLEMENT, 0, 0, 0) == CAVERNLULL_WRITER_BUFFER_SHORT);
     CHECK(write_short(CAVERNLULL_RIGHTS_ENABLEMENT, 0, 1, 0) == CAVERNLULL_WRITER_BUFFER_SHORT);
@@ -574,6 +667,8 @@ int main(void) {
     counts(no_count, no_count);
     counts(kept(0xFFFF), no_count);
     counts(no_count, kept(256));
+    installs_none_without_a_hash();
+    uses_old_rights();
     turns();
     tally_refusals();
     tallies_differ();
