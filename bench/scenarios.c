@@ -114,16 +114,16 @@ static void ask_to_lend(struct scenario *s) {
     ask_under(s, 5, old, count, 2);
 }
 
-/* Sets up, installs, retrieves and removes a right of 4,096 bytes. */
+/* Sets up, installs, retrieves and removes a right of one hash and 4,096 bytes. */
 static void ask_to_install(struct scenario *s) {
-    static uint8_t body[29 + 4096];
+    static uint8_t body[29 + 20 + 4096];
     uint8_t old[10], new[10];
     random_bytes(old, 10);
     random_bytes(new, 10);
     ask_under(s, 1, old, (const uint8_t[]){16, 0}, 2);
     memcpy(body, old, 10);
     random_bytes(body + 10, sizeof body - 10);
-    body[28] = 0;
+    body[28] = 1 << 4;
     ask(s, 2, body, sizeof body);
     ask_under(s, 3, old, new, 10);
     ask_under(s, 6, new, new, 0);
@@ -136,7 +136,8 @@ static void ask_to_be_refused(struct scenario *s, uint16_t number) {
     ask_list(s);
 }
 
-/* Lays out the table and the requests of the scenario of this index. */
+/* Lays out the table and the requests of the scenario of this index, if it is among these: those with random handles whose requests
+ * are carried out. */
 static int lay_out(struct scenario *s, unsigned index) {
     switch (index) {
     case 0: s->name = "blank, list query"; ask_list(s); break;
@@ -152,6 +153,14 @@ static int lay_out(struct scenario *s, unsigned index) {
         ask_to_install(s);
         break;
     case 8: s->name = "full, 8 hashes each, list query of 8 others"; fill_with_hashes(s); ask_list_of_others(s); break;
+    default: return 0;
+    }
+    return 1;
+}
+
+/* The same for a query that is refused, and for handles that are alike. */
+static int lay_out_refused_or_alike(struct scenario *s, unsigned index) {
+    switch (index) {
     case 9:
         s->name = "full, 100 bytes each, refused with 103 at the last byte";
         fill(s, 15, 100);
@@ -172,6 +181,11 @@ static int lay_out(struct scenario *s, unsigned index) {
         fill_under_like_handles(s, 100, 8);
         ask_list(s);
         break;
+    case 13:
+        s->name = "full, 100 bytes each, handles that differ in the last byte but two, list query";
+        fill_under_like_handles(s, 100, 7);
+        ask_list(s);
+        break;
     default: return 0;
     }
     return 1;
@@ -180,7 +194,7 @@ static int lay_out(struct scenario *s, unsigned index) {
 int make_scenario(struct scenario *s, unsigned index) {
     memset(s, 0, sizeof *s);
     state = 0x9e3779b97f4a7c15;
-    if (!lay_out(s, index)) return 0;
+    if (!lay_out(s, index) && !lay_out_refused_or_alike(s, index)) return 0;
     s->tally = counted(s->table);
     if (s->number == 106) s->tally.payload--;
     return 1;

@@ -129,7 +129,8 @@ static unsigned field_status(unsigned kind, unsigned kept, const uint8_t *body, 
     if (kind == 2) {
         size_t hashes = body[28] >> 4, used = 29 + HASH * hashes;
         if (!is_count(kept, body + HANDLE + KEY)) return PARAMETER;
-        return hashes > HASHES || (body[28] & 15) || n <= used || n - used > PAYLOAD ? PARAMETER : SUCCESS;
+        if (hashes == 0 || hashes > HASHES || (body[28] & 15)) return PARAMETER;
+        return n <= used || n - used > PAYLOAD ? PARAMETER : SUCCESS;
     }
     if (kind == 5) return is_count(kept, body + HANDLE) ? SUCCESS : PARAMETER;
     if (kind == 8) return body[2] > HASHES || n != 3 + HASH * (size_t)body[2] ? PARAMETER : SUCCESS;

@@ -59,14 +59,15 @@ pub fn test(head: &[u8; 4], body: &[u8]) -> Result<(), Status> {
     }
 }
 
-/// The field tests. A count that is not kept must be 0.
+/// The field tests. A count that is not kept must be 0, and an installation has
+/// a hash.
 fn fields_hold(kind: u8, kept: bool, body: &[u8]) -> bool {
     match kind {
         2 => {
             let hashes = usize::from(body[28] >> 4);
             let used = 29 + HASH * hashes;
             (kept || body[26..28] == [0, 0])
-                && hashes <= HASHES
+                && (1..=HASHES).contains(&hashes)
                 && body[28] & 15 == 0
                 && body.len() > used
                 && body.len() - used <= PAYLOAD
