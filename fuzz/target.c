@@ -3,7 +3,7 @@
  * turnings, and tallies worked out. After each call the number, the reply buffer, the table and the tally must be those of
  * the agent in C (counterparts/c/agent.c), and so must a tally that is worked out; after each turning, number and table must
  * be those of the turning below; every request that is written must have the kind and the count's bit asked for, and the
- * verdict 1; and every reply must be one that the reply reader takes.
+ * verdict 1; no installation may be written without a hash; and every reply must be one that the reply reader takes.
  *
  * All memory is lent in allocations of exactly its length, so that the address sanitiser sees any access outside it.
  */
@@ -203,9 +203,32 @@ struct fields {
     size_t hashes, payload;
 };
 
-/* A request of a kind, written by the writer, about few handles and few hashes. */
+static uint8_t payload[65535], hashes[9 * HASH], out[70000];
+
+/* Writes a request, and gives whether the writer takes it. */
+static int written(unsigned kind, const struct fields *f) {
+    if (cavernlull_write_request((uint8_t)kind, f->handle, f->other, f->key, f->room, f->count, f->kept, f->limit, hashes,
+                                 f->hashes, payload, f->payload, out, sizeof out) != 0) return 0;
+    if (f->kept > 1 || (f->count != 0 && f->kept == 0)) abort();
+    if ((out[0] & 31) != kind || out[1] != (f->kept ? 0x80 | CAVERNLULL_KEPT_IN_REQUEST : 0x80)) abort();
+    return 1;
+}
+
+/* Writes an installation without a hash: the writer refuses it, so it is written with one, which is taken off. */
+static int written_without_hash(struct fields f) {
+    if (written(CAVERNLULL_RIGHTS_INSTALLATION, &f)) abort();
+    f.hashes = HASH;
+    if (!written(CAVERNLULL_RIGHTS_INSTALLATION, &f)) return 0;
+    size_t length = 29 + f.payload;
+    out[2] = (uint8_t)(length >> 8);
+    out[3] = (uint8_t)length;
+    out[4 + 28] = 0;
+    memcpy(out + 4 + 29, payload, f.payload);
+    return 1;
+}
+
+/* A request of a kind, about few handles and few hashes. */
 static void request(struct input *in, struct tables *t, unsigned kind) {
-    static uint8_t payload[65535], hashes[9 * HASH], out[70000];
     static const uint8_t none[16];
     uint8_t names = take(in), handle[HANDLE], other[HANDLE];
     memset(handle, names & 3, HANDLE);
@@ -224,10 +247,8 @@ static void request(struct input *in, struct tables *t, unsigned kind) {
     case 5: f.count = count; f.kept = kept; break;
     case 8: f.handle = none; f.limit = n; f.hashes = listed; break;
     }
-    if (cavernlull_write_request((uint8_t)kind, f.handle, f.other, f.key, f.room, f.count, f.kept, f.limit, hashes, f.hashes,
-                                 payload, f.payload, out, sizeof out) != 0) return;
-    if (f.kept > 1 || (f.count != 0 && f.kept == 0)) abort();
-    if ((out[0] & 31) != kind || out[1] != (f.kept ? 0x80 | CAVERNLULL_KEPT_IN_REQUEST : 0x80)) abort();
+    int has_hash = kind != CAVERNLULL_RIGHTS_INSTALLATION || f.hashes != 0;
+    if (!(has_hash ? written(kind, &f) : written_without_hash(f))) return;
     struct beside b = take_beside(in, t);
     call(t, &b, out, 4 + (size_t)(out[2] << 8 | out[3]), CAVERNLULL_REPLY_ROOM + (names & 1));
 }
@@ -241,12 +262,26 @@ static void copy_handle(struct tables *t, size_t to, size_t from) {
     memmove(t->theirs + at, t->theirs + other, HANDLE);
 }
 
-/* Changes the table: a handle, a byte that a rule is about, or any byte. */
+/* Takes the hashes off a record: a right is then one that was installed without any (PROFILE 2.9), with the same tally. */
+static void take_hashes_off(struct tables *t, size_t slot) {
+    size_t slots = t->length / SLOT;
+    if (slots == 0) return;
+    size_t at = slot % slots * SLOT;
+    t->ours[at] = t->theirs[at] &= 0xc3;
+    memset(t->ours + at + 31, 0, CAVERNLULL_MOST_HASHES * HASH);
+    memset(t->theirs + at + 31, 0, CAVERNLULL_MOST_HASHES * HASH);
+}
+
+/* Changes the table: a handle, the hashes of a record, a byte that a rule is about, or any byte. */
 static void change(struct input *in, struct tables *t) {
     static const uint16_t offsets[] = {0, 1, 10, 11, 27, 28, 29, 30, 31, 50, 51, 190, 191, 192, 4286, 4287};
     size_t slot = take(in) % 16, where = take(in), at = slot * SLOT;
     if (where >= 128) {
         copy_handle(t, slot, where);
+        return;
+    }
+    if (where >= 112) {
+        take_hashes_off(t, slot);
         return;
     }
     at += where < sizeof offsets / sizeof offsets[0] ? offsets[where] : take_word(in) % SLOT;
