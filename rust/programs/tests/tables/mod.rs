@@ -85,7 +85,7 @@ pub fn by_requests() -> Vec<u8> {
         assert_eq!(ask(&mut table, 1, &setup), 0);
     }
     for (i, &length) in (0..).zip(&lengths).filter(|(i, _)| i % 5 != 1) {
-        let hashes = vec![i; HASH_BYTES * usize::from(i % 9)];
+        let hashes = vec![i; HASH_BYTES * usize::from(1 + i % 8)];
         let installation = WriterFields {
             handle: [i; 10],
             key: [i; 16],
