@@ -1,9 +1,10 @@
-/* A coverage-guided fuzz target for the exported functions. An input is a program: the length of the table, and then what is
- * done with it: requests of every kind and frames of any bytes, each with a tally and from a start, changes to the table,
- * turnings, and tallies worked out. After each call the number, the reply buffer, the table and the tally must be those of
- * the agent in C (counterparts/c/agent.c), and so must a tally that is worked out; after each turning, number and table must
- * be those of the turning below; every request that is written must have the kind and the count's bit asked for, and the
- * verdict 1; no installation may be written without a hash; and every reply must be one that the reply reader takes.
+/* A coverage-guided fuzz target for the exported functions. An input is a program: the length of the table and whether it holds
+ * rights without a hash, and then what is done with it: requests of every kind and frames of any bytes, each with a tally and
+ * from a start, changes to the table, turnings, and tallies worked out. After each call the number, the reply buffer, the table
+ * and the tally must be those of the agent in C (counterparts/c/agent.c), and so must a tally that is worked out; after each
+ * turning, number and table must be those of the turning below; every request that is written must have the kind and the count's
+ * bit asked for, and the verdict 1; no installation may be written without a hash; and every reply must be one that the reply
+ * reader takes.
  *
  * All memory is lent in allocations of exactly its length, so that the address sanitiser sees any access outside it.
  */
@@ -262,26 +263,12 @@ static void copy_handle(struct tables *t, size_t to, size_t from) {
     memmove(t->theirs + at, t->theirs + other, HANDLE);
 }
 
-/* Takes the hashes off a record: a right is then one that was installed without any (PROFILE 2.9), with the same tally. */
-static void take_hashes_off(struct tables *t, size_t slot) {
-    size_t slots = t->length / SLOT;
-    if (slots == 0) return;
-    size_t at = slot % slots * SLOT;
-    t->ours[at] = t->theirs[at] &= 0xc3;
-    memset(t->ours + at + 31, 0, CAVERNLULL_MOST_HASHES * HASH);
-    memset(t->theirs + at + 31, 0, CAVERNLULL_MOST_HASHES * HASH);
-}
-
-/* Changes the table: a handle, the hashes of a record, a byte that a rule is about, or any byte. */
+/* Changes the table: a handle, a byte that a rule is about, or any byte. */
 static void change(struct input *in, struct tables *t) {
     static const uint16_t offsets[] = {0, 1, 10, 11, 27, 28, 29, 30, 31, 50, 51, 190, 191, 192, 4286, 4287};
     size_t slot = take(in) % 16, where = take(in), at = slot * SLOT;
     if (where >= 128) {
         copy_handle(t, slot, where);
-        return;
-    }
-    if (where >= 112) {
-        take_hashes_off(t, slot);
         return;
     }
     at += where < sizeof offsets / sizeof offsets[0] ? offsets[where] : take_word(in) % SLOT;
@@ -320,11 +307,27 @@ static void any_reply(struct input *in) {
     free(frame);
 }
 
+/* Puts rights without a hash (PROFILE 2.9) into the first three slots of a blank table, under handles that requests are about: the
+ * second one is lent. No call brings such a right. */
+static void put_old_rights(struct tables *t) {
+    for (size_t i = 0; i < 3 && (i + 1) * SLOT <= t->length; i++) {
+        uint8_t *s = t->ours + i * SLOT;
+        s[0] = i == 1 ? 0xc0 : 0x80;
+        memset(s + 1, (int)i, HANDLE);
+        memset(s + 11, 7, CAVERNLULL_KEY_BYTES);
+        s[30] = 1;
+        s[192] = 7;
+    }
+    memcpy(t->theirs, t->ours, t->length);
+    work_out(t);
+}
+
 int LLVMFuzzerTestOneInput(const uint8_t *bytes, size_t length) {
     struct input in = {bytes, length};
     uint8_t slots = take(&in);
     size_t size = (size_t)(slots & 15) * SLOT + (slots >> 4 == 15 ? take(&in) : 0);
     struct tables t = {lent(size, 0), lent(size, 0), size, {(uint16_t)(size / SLOT), 0, 0, 0, 0}};
+    if (slots >> 4 >= 12) put_old_rights(&t);
     for (unsigned steps = 0; in.left > 0 && steps < 64; steps++) {
         uint8_t what = take(&in) & 15;
         if (what >= 1 && what <= 9) request(&in, &t, what);
