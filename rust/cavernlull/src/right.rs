@@ -53,8 +53,8 @@ pub struct Right {
     pub key: Key,
     /// The count: `None` where none is kept, `Some(0)` where it is used up.
     pub count: Option<u16>,
-    /// Hashes of the assets that the right is for: 1 to 8 to install it, up to
-    /// 8 where a card gives it.
+    /// The hashes of the assets that the right is for: 1 to 8 to install it, and
+    /// 0 to 8 where a card gives it.
     pub hashes: Vec<AssetHash>,
     /// The payload: 1 to 4,096 bytes, which neither card nor library interprets.
     pub payload: Vec<u8>,
