@@ -183,7 +183,8 @@ fn list_handles(slots: &[SlotBytes], fields: &Fields<'_>) -> Vec<u8> {
 
 /// The handles that kind 8 asks for, in the order of their slots: those of the
 /// enabled records that have one of the request's hashes or, where the request
-/// has none, of all enabled records.
+/// has none, of all enabled records. A record without a hash is asked for only
+/// with all the others (PROFILE 2.9).
 fn wanted_handles(slots: &[SlotBytes], hashes: &[u8]) -> Vec<Handle> {
     slots
         .iter()

@@ -6,8 +6,18 @@
 //! count in its four high bits and zeros in the others, the hashes, and the
 //! payload. The count's bit travels in the head of the frame.
 
+use std::ops::RangeInclusive;
+
 use crate::bytes::{array_at, u16_at};
 use crate::{Count, Key, HASH_BYTES, MAX_HASHES, MAX_PAYLOAD};
+
+/// How many hashes a right may have that a table holds, and so one that a reply
+/// gives (PROFILE 2.4, 6.3).
+pub(crate) const HASHES_IN_A_RECORD: RangeInclusive<usize> = 0..=MAX_HASHES;
+
+/// How many hashes a right may have that a request installs: without one it
+/// would be found by no course (PROFILE 2.9, 5.2).
+const HASHES_IN_AN_INSTALLATION: RangeInclusive<usize> = 1..=MAX_HASHES;
 
 /// Key, count, and the byte with the hash count.
 const HEAD_BYTES: usize = 19;
@@ -15,7 +25,8 @@ const HEAD_BYTES: usize = 19;
 const COUNT_AT: usize = 16;
 const HASH_COUNT_AT: usize = 18;
 
-/// What a right holds beside its handle and its place.
+/// What a right holds beside its handle and its place, as a table may hold it.
+/// What a request may install is less: see [`Content::may_be_installed`].
 #[derive(Clone, Copy, Debug, PartialEq, Eq)]
 pub(crate) struct Content<'a> {
     pub key: Key,
@@ -25,11 +36,11 @@ pub(crate) struct Content<'a> {
 }
 
 impl<'a> Content<'a> {
-    /// Reads a content that fills all of `bytes`, where the frame's head has the
-    /// bit `kept`; `None` where there is a count without its bit, the hash count
-    /// is over 8, one of the four zero bits is set, or the payload is not 1 to
-    /// 4,096 bytes. Hashes that overrun `bytes` leave no payload, so they are
-    /// refused as well.
+    /// Reads a content that fills all of `bytes` and that a table may hold, where
+    /// the frame's head has the bit `kept`; `None` where there is a count without
+    /// its bit, the hash count is over 8, one of the four zero bits is set, or the
+    /// payload is not 1 to 4,096 bytes. Hashes that overrun `bytes` leave no
+    /// payload, so they are refused as well.
     pub fn read(bytes: &'a [u8], kept: bool) -> Option<Self> {
         let (head, rest) = bytes.split_at_checked(HEAD_BYTES)?;
         let count = Count::said(kept, u16_at(head, COUNT_AT))?;
@@ -41,6 +52,13 @@ impl<'a> Content<'a> {
             hashes,
             payload,
         })
+    }
+
+    /// Whether a request may install this content: it has a hash, and at most 8,
+    /// and a payload of 1 to 4,096 bytes (PROFILE 5.2). The hashes are whole.
+    pub fn may_be_installed(&self) -> bool {
+        HASHES_IN_AN_INSTALLATION.contains(&(self.hashes.len() / HASH_BYTES))
+            && payload_length_is_right(self.payload.len())
     }
 
     /// Appends this content to `out`, all but the count's bit.
@@ -57,7 +75,7 @@ impl<'a> Content<'a> {
 /// over 8.
 fn read_hash_count(byte: u8) -> Option<usize> {
     let count = usize::from(byte >> 4);
-    (count <= MAX_HASHES && byte & 0x0F == 0).then_some(count)
+    (HASHES_IN_A_RECORD.contains(&count) && byte & 0x0F == 0).then_some(count)
 }
 
 /// The number of hashes in `hashes`, which has 0 to 8 whole ones.

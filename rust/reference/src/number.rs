@@ -27,9 +27,9 @@ pub const TALLY_DIFFERS: u16 = 106;
 pub const WRITER_BUFFER_SHORT: u16 = 201;
 
 /// The writer cannot write these fields (PROFILE 6.2): the kind is not 1 to 9,
-/// the hashes are not 0 to 8 times 20 bytes, the payload of kind 2 is not 1 to
-/// 4,096 bytes, count and `kept` say no count, or a field that the kind lacks is
-/// not zero or empty.
+/// the hashes are not 0 to 8 times 20 bytes, kind 2 has no hash or a payload that
+/// is not 1 to 4,096 bytes, count and `kept` say no count, or a field that the
+/// kind lacks is not zero or empty.
 pub const WRITER_FIELDS: u16 = 202;
 
 /// The reply reader was not given a reply (PROFILE 6.3).

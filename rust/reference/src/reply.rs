@@ -101,8 +101,9 @@ fn read_empty(body: &[u8]) -> Option<ReplyFields<'_>> {
     body.is_empty().then(ReplyFields::default)
 }
 
-/// Kind 3: a content with its zero bits 0, at most 8 hashes, a payload of 1 to
-/// 4,096 bytes, and no count without its bit.
+/// Kind 3: a content with its zero bits 0, 0 to 8 hashes, a payload of 1 to
+/// 4,096 bytes, and no count without its bit. It is one that a table may hold, so
+/// it may be without a hash (PROFILE 6.3).
 fn read_content(kept: bool, body: &[u8]) -> Option<ReplyFields<'_>> {
     let content = Content::read(body, kept)?;
     Some(ReplyFields {

@@ -1,7 +1,7 @@
 //! Requests: their fields, their reader and their writer.
 
 use crate::bytes::{array_at, u16_at};
-use crate::content::{hash_count, payload_length_is_right, Content};
+use crate::content::{hash_count, Content};
 use crate::frame::{self, Frame};
 use crate::number::{DONE, WRITER_BUFFER_SHORT, WRITER_FIELDS};
 use crate::{Count, Handle, Key, Kind, Status, HANDLE_BYTES, HASH_BYTES, MAX_HASHES};
@@ -211,12 +211,12 @@ fn read_fields(kind: Kind, kept: bool, body: &[u8]) -> Option<Fields<'_>> {
     Some(Fields { handle, ..fields })
 }
 
-/// The field tests of kind 2 (PROFILE 5.2): no count without its bit, at most 8
+/// The field tests of kind 2 (PROFILE 5.2): no count without its bit, 1 to 8
 /// hashes, the four zero bits 0, and a payload of 1 to 4,096 bytes after the
 /// hashes.
 fn read_content_fields(kept: bool, content: &[u8]) -> Option<Fields<'_>> {
     let content = Content::read(content, kept)?;
-    Some(Fields {
+    content.may_be_installed().then_some(Fields {
         key: content.key,
         count: content.count,
         hashes: content.hashes,
@@ -258,12 +258,12 @@ pub fn write_request(kind: u8, fields: &WriterFields<'_>, out: &mut [u8]) -> u16
     DONE
 }
 
-/// Whether the writer takes these fields: the hashes are 0 to 8 times 20 bytes,
-/// the payload of kind 2 is 1 to 4,096 bytes, and every field that the kind
-/// lacks is zero or empty.
+/// Whether the writer takes these fields (PROFILE 6.2): the hashes are 0 to 8
+/// times 20 bytes, kind 2 has a hash and a payload of 1 to 4,096 bytes, and every
+/// field that the kind lacks is zero or empty.
 fn fields_are_right(kind: Kind, fields: &Fields<'_>) -> bool {
     hashes_are_whole(fields.hashes)
-        && (kind != Kind::RightsInstallation || payload_length_is_right(fields.payload.len()))
+        && (kind != Kind::RightsInstallation || content_of(fields).may_be_installed())
         && *fields == own_fields(kind, fields)
 }
 

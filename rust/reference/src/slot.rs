@@ -15,7 +15,7 @@
 use std::slice::ChunksExact;
 
 use crate::bytes::{all_zero, array_at, u16_at};
-use crate::content::{self, Content};
+use crate::content::{self, Content, HASHES_IN_A_RECORD};
 use crate::{Count, Handle, Key, HANDLE_BYTES, HASH_BYTES, KEY_BYTES, MAX_HASHES};
 
 /// The bytes of a slot.
@@ -140,7 +140,8 @@ pub fn has_handle(slot: &SlotBytes, wanted: &Handle) -> bool {
     place(slot) != Place::Empty && handle(slot) == *wanted
 }
 
-/// Whether the slot has some hash of `wanted`, which is whole hashes.
+/// Whether the slot has some hash of `wanted`, which is whole hashes. A slot
+/// without a hash has none of them.
 pub fn has_hash_of(slot: &SlotBytes, wanted: &[u8]) -> bool {
     each_hash(wanted).any(|hash| each_hash(hashes(slot)).any(|own| own == hash))
 }
@@ -176,7 +177,7 @@ fn holds_a_right(slot: &SlotBytes) -> bool {
 /// Whether all that is no count and no spare bit is well formed.
 fn well_formed_but_for_count(slot: &SlotBytes) -> bool {
     slot[ZERO_AT] == 0
-        && hash_count(slot) <= MAX_HASHES
+        && HASHES_IN_A_RECORD.contains(&hash_count(slot))
         && all_zero(split_hashes(slot).1)
         && all_zero(split_payload(slot).1)
         && well_formed_for_place(slot)

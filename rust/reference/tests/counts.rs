@@ -251,7 +251,7 @@ fn a_count_without_its_bit_is_2_in_its_order() {
             let body = body_bytes(5, &fields);
             assert_parameter_failed(&request_bytes(5, 0x80, &body));
         }
-        let too_long = right(handle, 0, 4096);
+        let too_long = right(handle, 1, 4096);
         assert_parameter_failed(&request_bytes(2, 0x80, &body_bytes(2, &too_long)));
     }
     for kind in [2, 5] {

@@ -1,5 +1,5 @@
-//! The worked examples of the card profile, cases 1 to 17 (PROFILE 9), as one
-//! table. All are run with the start 0 and the tally of their table.
+//! The worked examples of the card profile, cases 1 to 17, 22 and 23 (PROFILE 9),
+//! as one table. All are run with the start 0 and the tally of their table.
 
 mod common;
 
@@ -16,7 +16,12 @@ enum Start {
     After(&'static str),
     /// This many bytes, all zero.
     Zeros(usize),
+    /// One slot with these runs of bytes, each at its offset, and 0 elsewhere.
+    Holding(Runs),
 }
+
+/// Runs of bytes of a slot, each at its offset.
+type Runs = &'static [(usize, &'static str)];
 
 /// What a row must leave.
 #[derive(Clone, Copy)]
@@ -24,16 +29,21 @@ enum End {
     /// The table as it was.
     Same,
     /// A slot with these runs of bytes, each at its offset, and 0 elsewhere.
-    Slot(&'static [(usize, &'static str)]),
+    Slot(Runs),
 }
 
 use End::{Same, Slot};
-use Start::{After, Blank, Zeros};
+use Start::{After, Blank, Holding, Zeros};
+
+/// The slots of case 23: a right without a hash, for use and lent.
+const OLD: Runs = &[(0, "80"), (1, "H1"), (11, "K"), (29, "00 05"), (192, "P5")];
+const OLD_LENT: Runs = &[(0, "C0"), (1, "H2"), (11, "K"), (29, "00 05"), (192, "P5")];
 
 /// Name, start, frame, number, reply, table afterwards.
 type Row = (&'static str, Start, &'static str, u16, &'static str, End);
 
-/// Bytes are in hex; H1, H2 are handles, K is a key, P5 and P6 are payloads.
+/// Bytes are in hex; H1, H2 are handles, K is a key, A is an asset hash, P5 and P6
+/// are payloads.
 const ROWS: &[Row] = &[
     (
         "1",
@@ -80,7 +90,7 @@ const ROWS: &[Row] = &[
     (
         "7 over",
         After("1"),
-        "22 80 00 23 H1 K 00 00 00 P6",
+        "22 80 00 37 H1 K 00 00 10 A P6",
         0,
         "22 07 00 00",
         Same,
@@ -88,10 +98,17 @@ const ROWS: &[Row] = &[
     (
         "7",
         After("1"),
-        "22 80 00 22 H1 K 00 00 00 P5",
+        "22 80 00 36 H1 K 00 00 10 A P5",
         0,
         "22 00 00 00",
-        Slot(&[(0, "80"), (1, "H1"), (11, "K"), (29, "00 05"), (192, "P5")]),
+        Slot(&[
+            (0, "84"),
+            (1, "H1"),
+            (11, "K"),
+            (29, "00 05"),
+            (31, "A"),
+            (192, "P5"),
+        ]),
     ),
     ("8", After("7"), "24 80 00 14 H1 H1", 0, "24 05 00 00", Same),
     (
@@ -100,7 +117,14 @@ const ROWS: &[Row] = &[
         "24 80 00 14 H1 H2",
         0,
         "24 00 00 10 K",
-        Slot(&[(0, "C0"), (1, "H2"), (11, "K"), (29, "00 05"), (192, "P5")]),
+        Slot(&[
+            (0, "C4"),
+            (1, "H2"),
+            (11, "K"),
+            (29, "00 05"),
+            (31, "A"),
+            (192, "P5"),
+        ]),
     ),
     (
         "9 again",
@@ -125,11 +149,12 @@ const ROWS: &[Row] = &[
         0,
         "25 00 00 00",
         Slot(&[
-            (0, "82"),
+            (0, "86"),
             (1, "H2"),
             (11, "K"),
             (27, "00 03"),
             (29, "00 05"),
+            (31, "A"),
             (192, "P5"),
         ]),
     ),
@@ -196,15 +221,16 @@ const ROWS: &[Row] = &[
     (
         "16 installed",
         After("1"),
-        "22 C0 00 22 H1 K 00 01 00 P5",
+        "22 C0 00 36 H1 K 00 01 10 A P5",
         0,
         "22 00 00 00",
         Slot(&[
-            (0, "82"),
+            (0, "86"),
             (1, "H1"),
             (11, "K"),
             (27, "00 01"),
             (29, "00 05"),
+            (31, "A"),
             (192, "P5"),
         ]),
     ),
@@ -215,11 +241,12 @@ const ROWS: &[Row] = &[
         0,
         "24 00 00 10 K",
         Slot(&[
-            (0, "C2"),
+            (0, "C6"),
             (1, "H2"),
             (11, "K"),
             (27, "00 01"),
             (29, "00 05"),
+            (31, "A"),
             (192, "P5"),
         ]),
     ),
@@ -229,7 +256,14 @@ const ROWS: &[Row] = &[
         "25 C0 00 0C H2 00 00",
         0,
         "25 00 00 00",
-        Slot(&[(0, "82"), (1, "H2"), (11, "K"), (29, "00 05"), (192, "P5")]),
+        Slot(&[
+            (0, "86"),
+            (1, "H2"),
+            (11, "K"),
+            (29, "00 05"),
+            (31, "A"),
+            (192, "P5"),
+        ]),
     ),
     (
         "16 told",
@@ -244,13 +278,20 @@ const ROWS: &[Row] = &[
         After("16 returned"),
         "23 80 00 14 H2 H1",
         0,
-        "23 80 00 18 K 00 00 00 P5",
-        Slot(&[(0, "C2"), (1, "H1"), (11, "K"), (29, "00 05"), (192, "P5")]),
+        "23 80 00 2C K 00 00 10 A P5",
+        Slot(&[
+            (0, "C6"),
+            (1, "H1"),
+            (11, "K"),
+            (29, "00 05"),
+            (31, "A"),
+            (192, "P5"),
+        ]),
     ),
     (
         "17",
         After("1"),
-        "22 80 00 22 H1 K 00 01 00 P5",
+        "22 80 00 36 H1 K 00 01 10 A P5",
         0,
         "22 02 00 00",
         Same,
@@ -263,6 +304,94 @@ const ROWS: &[Row] = &[
         "25 02 00 00",
         Same,
     ),
+    (
+        "22",
+        After("1"),
+        "22 80 00 22 H1 K 00 00 00 P5",
+        0,
+        "22 02 00 00",
+        Same,
+    ),
+    (
+        "22 no handle",
+        Blank,
+        "22 80 00 22 H1 K 00 00 00 P5",
+        0,
+        "22 02 00 00",
+        Same,
+    ),
+    (
+        "22 verdict 0",
+        After("1"),
+        "22 00 00 22 H1 K 00 00 00 P5",
+        0,
+        "22 01 00 00",
+        Same,
+    ),
+    (
+        "23 listed",
+        Holding(OLD),
+        "28 80 00 03 00 00 00",
+        0,
+        "28 00 00 0B 00 H1",
+        Same,
+    ),
+    (
+        "23 by a hash",
+        Holding(OLD),
+        "28 80 00 17 00 00 01 A",
+        0,
+        "28 00 00 01 00",
+        Same,
+    ),
+    (
+        "23 read",
+        Holding(OLD),
+        "29 80 00 0A H1",
+        0,
+        "29 00 00 07 00 00 P5",
+        Same,
+    ),
+    (
+        "23 lent",
+        Holding(OLD),
+        "24 80 00 14 H1 H2",
+        0,
+        "24 00 00 10 K",
+        Slot(OLD_LENT),
+    ),
+    (
+        "23 retrieved",
+        Holding(OLD),
+        "23 80 00 14 H1 H2",
+        0,
+        "23 00 00 18 K 00 00 00 P5",
+        Slot(OLD_LENT),
+    ),
+    (
+        "23 returned",
+        Holding(OLD_LENT),
+        "25 80 00 0C H2 00 00",
+        0,
+        "25 00 00 00",
+        Slot(&[(0, "80"), (1, "H2"), (11, "K"), (29, "00 05"), (192, "P5")]),
+    ),
+    (
+        "23 removed",
+        Holding(OLD),
+        "26 80 00 0A H1",
+        0,
+        "26 00 00 00",
+        Slot(&[]),
+    ),
+    (
+        "23 lent, removed",
+        Holding(OLD_LENT),
+        "26 80 00 0A H2",
+        0,
+        "26 00 00 00",
+        Slot(&[]),
+    ),
 ];
 
 /// The bytes of a text of hex pairs and names.
@@ -271,9 +400,10 @@ fn bytes(text: &str) -> Vec<u8> {
         .flat_map(|word| match word {
             "H1" => vec![1; 10],
             "H2" => vec![2; 10],
-            "K" => (0xC0..0xD0).collect(),
-            "P5" => vec![0x50, 0x51, 0x52, 0x53, 0x54],
-            "P6" => vec![0x60, 0x61, 0x62, 0x63, 0x64, 0x65],
+            "K" => (0x01..=0x10).collect(),
+            "A" => (0xA0..=0xB3).collect(),
+            "P5" => (0xA1..=0xA5).collect(),
+            "P6" => (0xA1..=0xA6).collect(),
             pair => vec![u8::from_str_radix(pair, 16).expect("a hex pair")],
         })
         .collect()
@@ -297,6 +427,7 @@ fn worked_examples() {
             Blank => blank(1),
             After(row) => states[row].clone(),
             Zeros(length) => vec![0; length],
+            Holding(runs) => slot(runs),
         };
         let expected = match then {
             Same => before.clone(),

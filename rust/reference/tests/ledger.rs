@@ -3,7 +3,7 @@
 mod common;
 
 use common::{
-    about, frame_bytes, lending, mixed_table, returning, right, setup, uncounted, OwnFields,
+    about, fourth, frame_bytes, lending, mixed_table, returning, right, setup, uncounted, OwnFields,
 };
 use reference::ledger::{agrees, Ledger, Right, Setup, Standing};
 use reference::{read_request, Count, ReadRequest, SLOT_BYTES};
@@ -44,7 +44,7 @@ fn mixed_history() -> Vec<(u8, OwnFields, u8)> {
         (1, setup(4, 9), 0),
         (2, right(1, 2, 33), 0),
         (2, right(3, 8, 4096), 0),
-        (2, uncounted(right(4, 0, 9)), 0),
+        (2, uncounted(fourth()), 0),
         (4, lending(3, 5), 0),
         (7, about(0), 0),
     ]
@@ -60,10 +60,10 @@ fn setups_open_and_close() {
     assert_eq!(ledger_of(&history).setups(), [open(1, 5), open(2, 6)]);
     history.push((7, about(1), 0));
     assert_eq!(ledger_of(&history).setups(), [open(2, 6)]);
-    history.push((2, right(2, 0, 3), 0));
+    history.push((2, right(2, 1, 3), 0));
     let ledger = ledger_of(&history);
     assert!(ledger.setups().is_empty());
-    assert_eq!(ledger.rights(), [as_installed(&right(2, 0, 3))]);
+    assert_eq!(ledger.rights(), [as_installed(&right(2, 1, 3))]);
 }
 
 #[test]
@@ -158,7 +158,7 @@ fn the_count_is_told_with_its_bit() {
     for told in [Count::NotKept, Count::Kept(0)] {
         let installed = OwnFields {
             count: told,
-            ..right(1, 0, 5)
+            ..right(1, 1, 5)
         };
         let ledger = ledger_of(&[(1, setup(1, 5), 0), (2, installed.clone(), 0)]);
         for held in [Count::NotKept, Count::Kept(0)] {

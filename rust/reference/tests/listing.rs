@@ -2,7 +2,7 @@
 
 mod common;
 
-use common::{blank, call_for, mixed_table, right, setup, OwnFields};
+use common::{blank, call_for, mixed_table, mixed_without_hashes, right, setup, OwnFields};
 use reference::{listing, Count};
 
 fn text(table: &[u8]) -> String {
@@ -27,6 +27,19 @@ fn every_place_has_its_word() {
          0 enabled 2 257 33\n\
          1 reserved 0 0 7\n\
          2 disabled 8 259 4096\n\
+         3 empty 0 0 0\n\
+         4 enabled 1 0 9\n"
+    );
+}
+
+#[test]
+fn rights_without_a_hash_are_listed_with_0_hashes() {
+    assert_eq!(
+        text(&mixed_without_hashes()),
+        "slot place hashes count length\n\
+         0 enabled 0 257 33\n\
+         1 reserved 0 0 7\n\
+         2 disabled 0 259 4096\n\
          3 empty 0 0 0\n\
          4 enabled 0 0 9\n"
     );

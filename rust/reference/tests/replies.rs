@@ -158,6 +158,23 @@ fn hash_count_and_zero_bits_of_kind_3() {
     }
 }
 
+/// A right without a hash may be retrieved, though it may not be installed.
+#[test]
+fn a_reply_to_kind_3_may_be_without_a_hash() {
+    for payload in [1, 5, 4096] {
+        for (second, count) in [(0, Count::NotKept), (0x80, Count::Kept(0))] {
+            let payload = vec![5; payload];
+            let body = [&[3; 16][..], &[0, 0, 0], &payload].concat();
+            let frame = reply_bytes(3, second, &body);
+            let reply = read_reply(&frame).expect("a reply");
+            assert_eq!(reply.status, Status::Success);
+            assert_eq!((reply.fields.key, reply.fields.count), ([3; 16], count));
+            assert_eq!(reply.fields.hashes, [0; 0]);
+            assert_eq!(reply.fields.payload, payload);
+        }
+    }
+}
+
 #[test]
 fn zero_bits_of_kind_8() {
     for byte in 0..=255 {

@@ -2,7 +2,7 @@
 
 mod common;
 
-use common::{frame_bytes, request_bytes, right, OwnFields, FILLER};
+use common::{body_bytes, frame_bytes, request_bytes, right, OwnFields, FILLER};
 use reference::ReadRequest::{NoFrame, Refused, Request};
 use reference::{read_request, write_request, Count, Fields, Kind, Status, WriterFields};
 
@@ -119,9 +119,11 @@ fn a_kind_not_1_to_9_is_202() {
     }
 }
 
-/// Fields as blank as the writer takes them.
+/// Fields as blank as the writer takes them: an installation has a hash and a
+/// payload.
 fn blank_fields(kind: u8) -> WriterFields<'static> {
     WriterFields {
+        hashes: if kind == 2 { &[0; 20] } else { &[] },
         payload: if kind == 2 { &[0] } else { &[] },
         ..WriterFields::default()
     }
@@ -164,7 +166,8 @@ fn hash_bytes_are_a_multiple_of_20_up_to_160() {
                 hashes: &bytes[..length],
                 ..blank_fields(kind)
             };
-            if length % 20 == 0 && length <= 160 {
+            let none_needed = kind == 8;
+            if length % 20 == 0 && length <= 160 && (length > 0 || none_needed) {
                 assert_eq!(write_request(kind, &fields, &mut [0; 250]), 0);
             } else {
                 assert_202(kind, &fields);
@@ -179,10 +182,33 @@ fn a_payload_of_kind_2_is_1_to_4096_bytes() {
     for (length, number) in [(0, 202), (1, 0), (4095, 0), (4096, 0), (4097, 202)] {
         let fields = WriterFields {
             payload: &bytes[..length],
-            ..WriterFields::default()
+            ..blank_fields(2)
         };
         assert_eq!(write_request(2, &fields, &mut [0; 4400]), number);
     }
+}
+
+/// An installation without a hash is 202, also where the buffer is too short for
+/// the frame that it would be, or just long enough. A query without one is
+/// written.
+#[test]
+fn an_installation_without_a_hash_is_202() {
+    for payload in [1, 5, 20, 21, 4095, 4096] {
+        let installation = right(1, 0, payload);
+        assert_202(2, &installation.handed());
+        let frame = frame_bytes(2, &installation);
+        for room in [0, 4, 32, frame.len() - 1, frame.len(), frame.len() + 20] {
+            let mut buffer = vec![FILLER; room];
+            assert_eq!(write_request(2, &installation.handed(), &mut buffer), 202);
+            assert!(buffer.iter().all(|&byte| byte == FILLER));
+        }
+        assert_eq!(read_request(&frame), PARAMETER_FAILED);
+    }
+    let query = WriterFields::default();
+    let mut frame = [FILLER; 7];
+    assert_eq!(write_request(8, &query, &mut frame[1..]), 201);
+    assert_eq!(write_request(8, &query, &mut frame), 0);
+    assert_eq!(frame, [0x28, 0x80, 0, 3, 0, 0, 0]);
 }
 
 #[test]
@@ -248,10 +274,12 @@ fn tests_for_all_kinds_come_in_order() {
     }
 }
 
+/// Bodies of zeros. One of kind 2 that is long enough is refused too, since it
+/// has no hash, but only after the verdict.
 #[test]
 fn each_kind_has_its_body_length() {
     for kind in 1..=9 {
-        for length in 0..50 {
+        for length in 0..80 {
             let body = vec![0; length];
             let right = match kind {
                 1 | 5 => length == 12,
@@ -263,7 +291,8 @@ fn each_kind_has_its_body_length() {
             for second in [0x80, 0] {
                 let frame = request_bytes(kind, second, &body);
                 let refused = read_request(&frame) == PARAMETER_FAILED;
-                assert_eq!(refused, !right, "kind {kind}, {length} bytes");
+                let no_hash = kind == 2 && second == 0x80;
+                assert_eq!(refused, !right || no_hash, "kind {kind}, {length} bytes");
             }
         }
     }
@@ -293,8 +322,9 @@ fn kinds_8_and_9_ignore_the_verdict() {
 fn field_tests_of_kind_2() {
     let rows: &[(u8, usize, bool)] = &[
         // the byte of the hash count, the bytes after it, whether it is read
-        (0x00, 1, true),
-        (0x00, 4096, true),
+        (0x00, 1, false),
+        (0x00, 21, false),
+        (0x00, 4096, false),
         (0x00, 4097, false),
         (0x01, 1, false),
         (0x08, 1, false),
@@ -337,6 +367,80 @@ fn field_tests_of_kind_2() {
             read_request(&request_bytes(2, 0, &body)),
             Refused(Status::FieldIntegrityVerificationFailed)
         );
+    }
+}
+
+/// What the reader makes of a body of kind 2 (PROFILE 4.3, 5.2): status 2 for
+/// fewer than 30 bytes, then 1 for a verdict of 0, then 2 unless there are 1 to 8
+/// hashes and a payload after them. The count is a kept one.
+fn expected_of_kind_2(verdict: bool, hash_byte: u8, length: usize) -> Option<Status> {
+    let hashes = usize::from(hash_byte >> 4);
+    let payload = length.saturating_sub(29 + 20 * hashes);
+    if length < 30 {
+        Some(Status::ParameterFailed)
+    } else if !verdict {
+        Some(Status::FieldIntegrityVerificationFailed)
+    } else if (1..=8).contains(&hashes) && hash_byte % 16 == 0 && payload >= 1 {
+        None
+    } else {
+        Some(Status::ParameterFailed)
+    }
+}
+
+/// Every hash byte in short bodies: 30 bytes pass the test of the length, and 50
+/// are the first that may pass all.
+#[test]
+fn short_bodies_of_kind_2() {
+    let mut shortest = usize::MAX;
+    for length in 28..=54 {
+        for hash_byte in 0..=255 {
+            let mut body = vec![7; length];
+            body[28.min(length - 1)] = hash_byte;
+            for second in [0xC0, 0x40] {
+                let frame = request_bytes(2, second, &body);
+                let expected = expected_of_kind_2(second == 0xC0, hash_byte, length);
+                match (read_request(&frame), expected) {
+                    (Request(_), None) => shortest = shortest.min(length),
+                    (read, expected) => assert_eq!(Some(read), expected.map(Refused)),
+                }
+            }
+        }
+    }
+    assert_eq!(shortest, 50);
+}
+
+/// A missing hash is status 2 beside every other field fault, and alone; without
+/// the verdict it is 1, and 2 again where version, zero bits or length are wrong.
+#[test]
+fn a_missing_hash_comes_in_its_order() {
+    let integrity = Refused(Status::FieldIntegrityVerificationFailed);
+    let body = |hash_byte: u8, payload: usize| {
+        let mut body = body_bytes(2, &right(1, 0, payload));
+        body[28] = hash_byte;
+        body
+    };
+    let bodies = [body(0, 1), body(0, 4096), body(0x0F, 5), body(0, 4097)];
+    for body in bodies {
+        // with the bit of its count, and without
+        for second in [0xC0, 0x80] {
+            assert_eq!(
+                read_request(&request_bytes(2, second, &body)),
+                PARAMETER_FAILED
+            );
+            let failed = request_bytes(2, second & !0x80, &body);
+            assert_eq!(read_request(&failed), integrity);
+        }
+        for second in [0x20, 0x01, 0xA0] {
+            let frame = request_bytes(2, second, &body);
+            assert_eq!(read_request(&frame), PARAMETER_FAILED, "a zero bit");
+        }
+        let mut frame = request_bytes(2, 0, &body);
+        frame[0] = 0x42;
+        assert_eq!(read_request(&frame), PARAMETER_FAILED, "the version");
+    }
+    for second in [0xC0, 0] {
+        let no_payload = request_bytes(2, second, &body(0, 0));
+        assert_eq!(read_request(&no_payload), PARAMETER_FAILED, "the length");
     }
 }
 

@@ -253,7 +253,7 @@ fn lists_are_in_slot_order_and_not_in_the_order_of_setups() {
     for (handle, start) in [(1, 3), (2, 1), (3, 4), (4, 0), (5, 2)] {
         let given = call_from(start, &mut table, &frame_bytes(1, &setup(handle, 9)));
         assert_eq!(given.reply, [0x21, 0, 0, 0]);
-        call_for(0, &mut table, 2, &right(handle, 0, 9));
+        call_for(0, &mut table, 2, &right(handle, 1, 9));
     }
     for start in 0..5 {
         assert_eq!(listed(&mut table, start, 0), [4, 2, 5, 1, 3]);

@@ -35,10 +35,10 @@ fn statuses_of_requests_about_a_mixed_table() {
         (1, setup(0, 1), 0),
         (6, about(0), 4),
         // 4 before 6 before 7
-        (2, right(ABSENT, 0, 4096), 4),
-        (2, right(ENABLED, 0, 4096), 6),
-        (2, right(DISABLED, 0, 1), 6),
-        (2, right(RESERVED, 0, 8), 7),
+        (2, right(ABSENT, 1, 4096), 4),
+        (2, right(ENABLED, 1, 4096), 6),
+        (2, right(DISABLED, 1, 1), 6),
+        (2, right(RESERVED, 1, 8), 7),
         (2, right(RESERVED, 8, 7), 0),
         (2, right(RESERVED, 1, 1), 0),
         // 4 before 6 before 5
@@ -136,7 +136,7 @@ fn successes_change_these_bytes_and_no_other() {
             4,
             lending(SECOND_ENABLED, 0),
             with_slot(4, |slot| {
-                slot[0] = 0xC0;
+                slot[0] = 0xC0 + 4;
                 slot[1..11].fill(0);
             }),
         ),
@@ -212,10 +212,15 @@ fn lists_of_the_mixed_table() {
     assert_eq!(list(&mut table, 10, &[]), (vec![ENABLED], true));
     assert_eq!(list(&mut table, 9, &[]), (vec![], true));
     assert_eq!(list(&mut table, 1, &[]), (vec![], true));
-    // the first record has hashes 1 and 2, and a disabled one has 1 to 8
+    // the first record has hashes 1 and 2, the last one 9, and a disabled one
+    // has 1 to 8
     assert_eq!(list(&mut table, 0, &[1]), (vec![ENABLED], false));
     assert_eq!(list(&mut table, 0, &[2]), (vec![ENABLED], false));
     assert_eq!(list(&mut table, 0, &[7, 2, 2, 1]), (vec![ENABLED], false));
+    assert_eq!(list(&mut table, 0, &[9]), (vec![SECOND_ENABLED], false));
+    let both = vec![ENABLED, SECOND_ENABLED];
+    assert_eq!(list(&mut table, 0, &[9, 1]), (both, false));
+    assert_eq!(list(&mut table, 10, &[9, 1]), (vec![ENABLED], true));
     assert_eq!(list(&mut table, 9, &[1]), (vec![], true));
     assert_eq!(list(&mut table, 0, &[3]), (vec![], false));
     // zeros in unused hash bytes are not a hash
@@ -228,16 +233,17 @@ fn lists_are_in_slot_order_with_15_handles() {
     let mut table = blank(15);
     for handle in (0..15).rev() {
         call_for(0, &mut table, 1, &setup(handle, 9));
-        call_for(0, &mut table, 2, &right(handle, handle % 3, 9));
+        call_for(0, &mut table, 2, &right(handle, 1 + handle % 3, 9));
     }
     let all: Vec<u8> = (0..15).rev().collect();
     assert_eq!(list(&mut table, 0, &[]), (all.clone(), false));
     assert_eq!(list(&mut table, 150, &[]), (all.clone(), false));
     assert_eq!(list(&mut table, 149, &[]), (all[..14].to_vec(), true));
-    let second: Vec<u8> = all.iter().copied().filter(|h| h % 3 == 2).collect();
-    assert_eq!(list(&mut table, 0, &[2]), (second, false));
+    assert_eq!(list(&mut table, 0, &[1]), (all.clone(), false));
+    let third: Vec<u8> = all.iter().copied().filter(|h| h % 3 == 2).collect();
+    assert_eq!(list(&mut table, 0, &[3]), (third, false));
     let any: Vec<u8> = all.iter().copied().filter(|h| h % 3 != 0).collect();
-    assert_eq!(list(&mut table, 0, &[2, 1]), (any, false));
+    assert_eq!(list(&mut table, 0, &[3, 2]), (any, false));
 }
 
 #[test]
@@ -276,7 +282,7 @@ fn verdict_0_is_1_for_kinds_1_to_7_before_any_look_at_the_table() {
     for kind in 1..=9 {
         let fields = match kind {
             1 => setup(ENABLED, 0),
-            2 => right(ABSENT, 0, 4096),
+            2 => right(ABSENT, 1, 4096),
             8 => OwnFields::default(),
             _ => about(ENABLED),
         };

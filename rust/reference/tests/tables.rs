@@ -3,7 +3,9 @@
 
 mod common;
 
-use common::{about, blank, call, call_for, mixed_table, setup, tally_of, FILLER};
+use common::{
+    about, blank, call, call_for, mixed_table, mixed_without_hashes, setup, tally_of, FILLER,
+};
 use reference::slot::{self, Place};
 use reference::{listing, table, well_formed, Count};
 use reference::{HASH_BYTES, MAX_SLOTS, REPLY_ROOM, SLOT_BYTES};
@@ -82,6 +84,7 @@ fn each_rule_alone_is_103() {
         ("first byte after the hashes", &[(ENABLED + 71, 1)]),
         ("last byte after the hashes", &[(ENABLED + 190, 1)]),
         ("hashes beyond a lowered count", &[(DISABLED, 0xDE)]),
+        ("hashes beyond a count of 0", &[(SECOND, 0x80)]),
         ("first byte after the payload", &[(ENABLED + 192 + 33, 1)]),
         ("last byte after the payload", &[(ENABLED + 4287, 1)]),
         (
@@ -155,6 +158,26 @@ fn counts_of_rights() {
             assert!(well_formed(&table), "a kept count of {number}");
             table[0] |= 1;
             assert_refused(103, &table, "the spare bit");
+        }
+    }
+}
+
+/// Without a hash a right is well formed, enabled or disabled, with a count or
+/// without; a hash byte is then one beyond the hash count.
+#[test]
+fn rights_without_a_hash_are_well_formed() {
+    let table = mixed_without_hashes();
+    assert!(well_formed(&table));
+    for (slot, byte_0) in [(ENABLED, 0x82), (DISABLED, 0xC2), (SECOND, 0x80)] {
+        assert_eq!(table[slot], byte_0);
+        assert_eq!(
+            slot::hashes(&table::slots(&table)[slot / SLOT_BYTES]),
+            [0; 0]
+        );
+        for at in [31, 50, 51, 190] {
+            let mut damaged = table.clone();
+            damaged[slot + at] = 1;
+            assert_refused(103, &damaged, "a hash byte beyond a count of 0");
         }
     }
 }

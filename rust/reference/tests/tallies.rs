@@ -4,8 +4,8 @@
 mod common;
 
 use common::{
-    about, blank, call_with, failures, frame_bytes, lending, mixed_table, returning, right, setup,
-    successes, tally_of, uncounted, Asker, Given, OwnFields, FILLER, NEW,
+    about, blank, call_with, failures, frame_bytes, lending, mixed_table, mixed_without_hashes,
+    returning, right, setup, successes, tally_of, uncounted, Asker, Given, OwnFields, FILLER, NEW,
 };
 use random::Rng;
 use reference::ReadRequest::Request;
@@ -42,7 +42,7 @@ fn step(table: &mut [u8], before: [u16; 5], kind: u8, fields: &OwnFields, after:
 fn case_20_a_right_comes_is_lent_comes_back_and_goes() {
     let table = &mut blank(1);
     step(table, [1, 0, 0, 0, 0], 1, &setup(1, 5), [0, 1, 0, 0, 0]);
-    let installation = uncounted(right(1, 0, 5));
+    let installation = uncounted(right(1, 1, 5));
     step(table, [0, 1, 0, 0, 0], 2, &installation, [0, 0, 1, 0, 5]);
     step(table, [0, 0, 1, 0, 5], 4, &lending(1, 2), [0, 0, 0, 1, 5]);
     let lent = &mut table.clone();
@@ -105,11 +105,11 @@ fn each_kind_changes_the_numbers_that_it_is_said_to() {
 /// Requests that are refused for what the table holds: with 7, 5 and 6.
 fn refused_by_the_table() -> Vec<Vec<u8>> {
     let rows = [
-        (2, right(2, 0, 8)),
+        (2, right(2, 1, 8)),
         (3, lending(1, 1)),
         (4, lending(4, 5)),
         (4, lending(5, NEW)),
-        (2, right(1, 0, 1)),
+        (2, right(1, 1, 1)),
         (5, returning(2, Count::Kept(1))),
         (6, about(2)),
         (7, about(1)),
@@ -245,7 +245,7 @@ fn a_tally_that_fits_does_not_mend_a_table() {
     }
 }
 
-/// Fifteen rights of 4,096 bytes, of which every other is lent.
+/// Fifteen rights of 4,096 bytes and no hash, of which every other is lent.
 fn fullest() -> Vec<u8> {
     let mut table = blank(MAX_SLOTS);
     for (index, slot) in table.chunks_mut(SLOT_BYTES).enumerate() {
@@ -262,6 +262,7 @@ fn fullest() -> Vec<u8> {
 fn tallies_are_worked_out_from_the_table_alone() {
     let mut rows = vec![
         (mixed_table(), MIXED),
+        (mixed_without_hashes(), MIXED),
         (fullest(), [0, 0, 8, 7, 61_440]),
         ([mixed_table(), blank(10)].concat(), [11, 1, 2, 1, 4138]),
     ];
@@ -401,7 +402,7 @@ fn a_tally_that_is_carried_on_is_never_106_and_follows_its_table() {
             steps.extend(follow(&mut rng, &mut blank(slots), 200));
         }
     }
-    for mut table in [mixed_table(), fullest()] {
+    for mut table in [mixed_table(), mixed_without_hashes(), fullest()] {
         steps.extend(follow(&mut rng, &mut table, 400));
     }
     let (same, lent) = ([0; 5], [0, 0, -1, 1, 0]);

@@ -2,13 +2,13 @@
 
 mod common;
 
-use common::{blank, mixed_table};
+use common::{blank, mixed_table, mixed_without_hashes};
 use random::Rng;
 use reference::{listing, slot, table, turn, well_formed, Count, Place};
 use reference::{MAX_SLOTS, SLOT_BYTES};
 
 /// The slots of the mixed table: enabled with a count, reserved, disabled with a
-/// count, empty, and enabled with none.
+/// count, empty, and enabled with none. Its rights have 2, 8 and 1 hashes.
 const ENABLED: usize = 0;
 const RESERVED: usize = SLOT_BYTES;
 const DISABLED: usize = 2 * SLOT_BYTES;
@@ -38,7 +38,17 @@ fn the_bit_is_set_where_the_count_is_not_0() {
     assert_eq!(turn(&mut table), 0);
     assert!(table == mixed_table(), "every byte");
     assert!(well_formed(&table));
-    assert_eq!(table[SECOND], 0x80, "no count, and no bit");
+    assert_eq!(table[SECOND], 0x84, "no count, and no bit");
+}
+
+#[test]
+fn rights_without_a_hash_are_turned_like_any_other() {
+    let mut table = old(mixed_without_hashes());
+    let first_bytes = |table: &[u8]| [ENABLED, DISABLED, SECOND].map(|slot| table[slot]);
+    assert_eq!(first_bytes(&table), [0x80, 0xC0, 0x80]);
+    assert_eq!(turn(&mut table), 0);
+    assert_eq!(first_bytes(&table), [0x82, 0xC2, 0x80]);
+    assert!(table == mixed_without_hashes(), "every byte");
 }
 
 /// Each byte of the count alone sets the bit, and nothing but byte 0 changes.
@@ -82,7 +92,7 @@ fn wrong_lengths_are_102() {
 fn tables_that_break_a_rule_from_before_the_bit_are_103() {
     let rows: &[(&str, &[(usize, u8)])] = &[
         ("the bit in a counted record", &[(ENABLED, 0x8A)]),
-        ("the bit in an uncounted record", &[(SECOND, 0x82)]),
+        ("the bit in an uncounted record", &[(SECOND, 0x86)]),
         ("the bit in a reserved slot", &[(RESERVED, 0x42)]),
         ("the bit in an empty slot", &[(EMPTY, 2)]),
         ("the other spare bit", &[(ENABLED, 0x89)]),
@@ -95,7 +105,7 @@ fn tables_that_break_a_rule_from_before_the_bit_are_103() {
         ("an empty slot with a handle", &[(EMPTY + 1, 1)]),
         ("hash count 9", &[(DISABLED, 0xE4)]),
         ("byte 191", &[(SECOND + 191, 1)]),
-        ("a hash byte beyond the count", &[(SECOND + 31, 1)]),
+        ("a hash byte beyond the count", &[(SECOND + 51, 1)]),
         ("a payload byte beyond the length", &[(SECOND + 192 + 9, 1)]),
         ("a length of 0", &[(RESERVED + 30, 0)]),
         ("a length of 4,097", &[(DISABLED + 30, 1)]),

@@ -58,8 +58,19 @@ impl Asker {
         [rng.below(self.handles) as u8; 10]
     }
 
-    fn hashes(&self, rng: &mut Rng) -> Vec<u8> {
+    /// The hashes of a query, of which there may be none.
+    fn asked_hashes(&self, rng: &mut Rng) -> Vec<u8> {
         let count = rng.pick(&[0, 0, 1, 1, 2, 3, 7, 8]);
+        self.hashes(rng, count)
+    }
+
+    /// The hashes of a right that may be installed.
+    fn own_hashes(&self, rng: &mut Rng) -> Vec<u8> {
+        let count = rng.pick(&[1, 1, 1, 2, 3, 7, 8]);
+        self.hashes(rng, count)
+    }
+
+    fn hashes(&self, rng: &mut Rng, count: usize) -> Vec<u8> {
         (0..count)
             .flat_map(|_| [rng.below(6) as u8; HASH_BYTES])
             .collect()
@@ -100,7 +111,7 @@ impl Asker {
             2 => {
                 fields.key = [rng.byte(); 16];
                 fields.count = self.count(rng);
-                fields.hashes = self.hashes(rng);
+                fields.hashes = self.own_hashes(rng);
                 let length = self.payload_length(rng);
                 fields.payload = rng.bytes(length);
             }
@@ -108,7 +119,7 @@ impl Asker {
             5 => fields.count = self.count(rng),
             8 => {
                 fields.limit = rng.pick(&[0, 0, 1, 9, 10, 19, 20, 55, 149, 150, 0xFFFF]);
-                fields.hashes = self.hashes(rng);
+                fields.hashes = self.asked_hashes(rng);
             }
             _ => {}
         }
@@ -116,10 +127,13 @@ impl Asker {
     }
 
     /// A frame: mostly a request, more often of the kinds that a right goes
-    /// through, and now and then spoilt.
+    /// through, and now and then spoilt. One installation in eight has no hash.
     pub fn frame(&self, rng: &mut Rng) -> Vec<u8> {
         let kind = rng.pick(&[1, 1, 1, 2, 2, 2, 2, 3, 4, 4, 5, 5, 6, 7, 8, 8, 9]);
-        let fields = self.fields(rng, kind);
+        let mut fields = self.fields(rng, kind);
+        if kind == 2 && rng.one_in(8) {
+            fields.hashes.clear();
+        }
         let mut frame = frame_bytes(kind, &fields);
         if rng.one_in(6) {
             spoil(rng, &mut frame);
@@ -266,8 +280,8 @@ pub fn call_for(status: u8, table: &mut [u8], kind: u8, fields: &OwnFields) -> V
 }
 
 /// A table of five slots: enabled with 2 hashes and a count, reserved, disabled
-/// with 8 hashes, the longest payload and a count, empty, and enabled with no
-/// hash and no count.
+/// with 8 hashes, the longest payload and a count, empty, and enabled with a hash
+/// that no other has and no count.
 pub fn mixed_table() -> Vec<u8> {
     let mut table = blank(5);
     for (handle, length) in [(1, 40), (2, 7), (3, 4096), (0, 3), (4, 9)] {
@@ -275,9 +289,35 @@ pub fn mixed_table() -> Vec<u8> {
     }
     call_for(0, &mut table, 2, &right(1, 2, 33));
     call_for(0, &mut table, 2, &right(3, 8, 4096));
-    call_for(0, &mut table, 2, &uncounted(right(4, 0, 9)));
+    call_for(0, &mut table, 2, &uncounted(fourth()));
     call_for(0, &mut table, 4, &lending(3, 5));
     call_for(0, &mut table, 7, &about(0));
+    table
+}
+
+/// The right under 4 of the mixed table, but with a count.
+pub fn fourth() -> OwnFields {
+    OwnFields {
+        hashes: vec![9; HASH_BYTES],
+        ..right(4, 0, 9)
+    }
+}
+
+/// Makes the right in this slot one without a hash, as no request can install it
+/// but cards may hold it (PROFILE 2.9): hash count 0, and zeros for hashes.
+pub fn take_hashes(table: &mut [u8], slot: usize) {
+    let slot = &mut table[slot * SLOT_BYTES..][..SLOT_BYTES];
+    assert!(slot[0] >= 0x80, "the slot holds a right");
+    slot[0] &= !0b0011_1100;
+    slot[31..191].fill(0);
+}
+
+/// The mixed table, but no right in it has a hash.
+pub fn mixed_without_hashes() -> Vec<u8> {
+    let mut table = mixed_table();
+    for slot in [0, 2, 4] {
+        take_hashes(&mut table, slot);
+    }
     table
 }
 
@@ -306,6 +346,7 @@ pub fn failures() -> Vec<Vec<u8>> {
     let mut frames: Vec<Vec<u8>> = setups.map(|fields| frame_bytes(1, &fields)).into();
     frames.push(request_bytes(1, 0, &[NEW; 12]));
     frames.push(request_bytes(1, 0x81, &[NEW; 12]));
+    frames.push(frame_bytes(2, &right(2, 0, 7)));
     frames.push(frame_bytes(6, &about(NEW)));
     frames.push(frame_bytes(9, &about(5)));
     let unknown = (0..32).filter(|kind| !(1..=9).contains(kind));
@@ -356,7 +397,8 @@ pub fn uncounted(fields: OwnFields) -> OwnFields {
     }
 }
 
-/// The fields of an installation under ten bytes `handle`, with a count.
+/// The fields of an installation under ten bytes `handle`, with a count. Without
+/// a hash it is one that is refused.
 pub fn right(handle: u8, hashes: u8, payload: usize) -> OwnFields {
     OwnFields {
         handle: [handle; 10],
