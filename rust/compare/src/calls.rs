@@ -1,17 +1,20 @@
 //! Calls made at random, and their check.
 //!
 //! Each call is handed to the driver and to the reference, and the outcomes are
-//! compared; so are the tally and the listing of the table after each call.
+//! compared; so are the tally and the listing of the table after each call, and
+//! what a reply that gives a right reads as.
 
+use crate::device;
 use crate::frames::Asker;
-use crate::outcome::{Counted, Counts, Outcome, Return, Returns, Search, Searches};
+use crate::outcome::{none_comes, Counted, Counts, Outcome};
+use crate::outcome::{Return, Returns, Search, Searches, Unhashed};
 use crate::pipeline::{self, Giver};
 use crate::refusals::{Precedence, Regardless};
 use crate::starts::start;
 use crate::steps::{left_right, Difference, Step};
-use crate::tables::{blank, damaged, listing_buffer, reply_buffer};
+use crate::tables::{blank, damaged, listing_buffer, reply_buffer, with_unhashed};
 use crate::tallies::{any, tally_of, wrong};
-use driver::{Call, Listed, Same, Tallied, Tally};
+use driver::{Answers, Call, Listed, Numbers, Read, Same, Tallied, Tally};
 use random::Rng;
 use reference::ledger::{agrees, Ledger, Standing};
 use reference::number::{DONE, TALLY_DIFFERS};
@@ -19,8 +22,12 @@ use reference::{read_request, Kind, ReadRequest, Request, MAX_SLOTS, SLOT_BYTES}
 use std::collections::BTreeMap;
 use std::io::Result;
 
-/// How many calls there are in one sequence, which starts from a blank table.
+/// How many calls there are in one sequence that starts from a blank table.
 const SEQUENCE: usize = 160;
+
+/// How many there are in one on a card that holds rights already, some of them
+/// without a hash. No request brings these back once they are removed.
+const UNTOLD_SEQUENCE: usize = 50;
 
 /// Where a call stands in the history of a table.
 #[derive(Clone, Copy, Debug, PartialEq, Eq)]
@@ -29,6 +36,8 @@ enum History {
     Begins,
     /// The next call on the same table.
     GoesOn,
+    /// A call on a card that holds rights of which no history tells.
+    Untold,
     /// A call on another table, which belongs to no history.
     Apart,
 }
@@ -60,6 +69,13 @@ struct Card {
 impl Card {
     fn blank(slots: usize) -> Card {
         let table = blank(slots);
+        let tally = tally_of(&table);
+        Card { table, tally }
+    }
+
+    /// A card that holds rights without a hash.
+    fn with_unhashed(rng: &mut Rng, asker: &Asker, slots: usize) -> Card {
+        let table = with_unhashed(rng, asker, slots);
         let tally = tally_of(&table);
         Card { table, tally }
     }
@@ -96,15 +112,46 @@ pub struct Handed {
     pub frame: Vec<u8>,
 }
 
-/// What is expected of a call: its outcome by the reference.
+/// What comes of a call: what it gives and leaves, what its reply reads as where
+/// it gives a right, and tally and listing of the table that it leaves.
+struct Answer {
+    call: Call,
+    read_back: Option<Read>,
+    tallied: Tallied,
+    listed: Listed,
+}
+
+impl Answer {
+    /// The driver's next answer, where this one is expected.
+    fn next(answers: &mut Answers, expected: &Answer) -> Answer {
+        Answer {
+            call: answers.call(),
+            read_back: expected.read_back.is_some().then(|| answers.read()),
+            tallied: answers.tallied(),
+            listed: answers.listed(),
+        }
+    }
+
+    /// Whether this is exactly the answer expected.
+    fn same_as(&self, expected: &Answer) -> Same {
+        self.call.same_as(&expected.call)?;
+        if let (Some(read), Some(expected)) = (&self.read_back, &expected.read_back) {
+            read.same_as(expected)?;
+        }
+        self.tallied.same_as(&expected.tallied)?;
+        self.listed.same_as(&expected.listed)
+    }
+}
+
+/// What is expected of a call: what comes of it by the reference.
 struct Expected {
     history: History,
     handed: Handed,
+    /// The table before the call.
+    before: Vec<u8>,
     /// Whether the tally is the one that the last call on this table left.
     carried_on: bool,
-    call: Call,
-    tallied: Tallied,
-    listed: Listed,
+    answer: Answer,
 }
 
 /// What occurred among some calls, and how often.
@@ -116,6 +163,8 @@ pub struct Seen {
     pub returns: Returns,
     /// The setups that looked for an empty slot.
     pub searches: Searches,
+    /// What came of requests about rights without a hash.
+    pub unhashed: BTreeMap<Unhashed, u64>,
     /// Which number went before which, where a call had a reason for both.
     pub precedences: BTreeMap<Precedence, u64>,
     /// What 105 and 106 were given for.
@@ -134,7 +183,7 @@ impl Seen {
     /// Notes a call that had the outcome expected, if its number is the first of
     /// those that it had a reason for.
     fn note(&mut self, outcome: Outcome, expected: &Expected) -> Same {
-        let (handed, call) = (&expected.handed, &expected.call);
+        let (handed, call) = (&expected.handed, &expected.answer.call);
         *self.calls.entry(outcome).or_default() += 1;
         if let Some(search) = Search::of(handed.start, &handed.frame, call) {
             *self.searches.entry(search).or_default() += 1;
@@ -148,10 +197,22 @@ impl Seen {
         self.note_tally(expected)
     }
 
+    /// Notes what the archive made of a call about rights without a hash, if it
+    /// brought none.
+    fn note_unhashed(&mut self, before: &[u8], frame: &[u8], given: &Answer) -> Same {
+        none_comes(before, &given.call.table)?;
+        let came = Unhashed::all_of(before, frame, &given.call);
+        let read_back = given.read_back.as_ref().and_then(Unhashed::of_reply);
+        for unhashed in came.into_iter().chain(read_back) {
+            *self.unhashed.entry(unhashed).or_default() += 1;
+        }
+        Ok(())
+    }
+
     /// Notes what became of a call's tally, if it is what must become of it. One
     /// that is carried on from call to call is never refused (PROFILE 8.5).
     fn note_tally(&mut self, expected: &Expected) -> Same {
-        let (lent, call) = (&expected.handed.tally, &expected.call);
+        let (lent, call) = (&expected.handed.tally, &expected.answer.call);
         left_right(lent, call)?;
         if call.number == TALLY_DIFFERS {
             if expected.carried_on {
@@ -164,8 +225,8 @@ impl Seen {
         if let Some(step) = Step::of(lent, call) {
             *self.steps.entry(step).or_default() += 1;
         }
-        let worked_out = self.worked_out.entry(expected.tallied.number);
-        *worked_out.or_default() += 1;
+        let worked_out = expected.answer.tallied.number;
+        *self.worked_out.entry(worked_out).or_default() += 1;
         Ok(())
     }
 }
@@ -183,37 +244,49 @@ pub fn compare(mut rng: Rng, calls: u64) -> Seen {
             let mut made = 0;
             while made < calls {
                 for slots in 1..=MAX_SLOTS {
-                    made += sequence(giver, &mut rng, slots)?;
+                    made += sequences(giver, &mut rng, slots)?;
                 }
             }
             Ok(())
         },
         |answers, expected| {
-            let (call, tallied) = (answers.call(), answers.tallied());
-            checker.check(&call, &tallied, &answers.listed(), &expected);
+            let given = Answer::next(answers, &expected.answer);
+            checker.check(&given, &expected);
         },
     );
     checker.seen
 }
 
-/// Makes a sequence of calls that starts from a blank table, some of them on a
-/// damaged copy of the table. Gives how many calls it made.
-fn sequence(giver: &mut Giver<Expected>, rng: &mut Rng, slots: usize) -> Result<u64> {
+/// Makes a sequence of calls that starts from a blank table, and one on a card
+/// that holds rights without a hash. Gives how many calls it made.
+fn sequences(giver: &mut Giver<Expected>, rng: &mut Rng, slots: usize) -> Result<u64> {
     let asker = Asker::new(slots);
-    let mut card = Card::blank(slots);
+    let mut told = vec![History::GoesOn; SEQUENCE];
+    told[0] = History::Begins;
+    let made = sequence(giver, rng, &asker, Card::blank(slots), &told)?;
+    let card = Card::with_unhashed(rng, &asker, slots);
+    let untold = [History::Untold; UNTOLD_SEQUENCE];
+    Ok(made + sequence(giver, rng, &asker, card, &untold)?)
+}
+
+/// Makes a call on a card for each item of its history, and some more on a damaged
+/// copy of its table. Gives how many calls it made.
+fn sequence(
+    giver: &mut Giver<Expected>,
+    rng: &mut Rng,
+    asker: &Asker,
+    mut card: Card,
+    history: &[History],
+) -> Result<u64> {
     let mut made = 0;
     giver.commands.table(&card.table)?;
-    for step in 0..SEQUENCE {
-        let history = match step {
-            0 => History::Begins,
-            _ => History::GoesOn,
-        };
-        call(giver, rng, &asker, history, &mut card)?;
+    for &history in history {
+        call(giver, rng, asker, history, &mut card)?;
         made += 1;
         if rng.one_in(10) {
             let mut other = card.damaged(rng);
             giver.commands.table(&other.table)?;
-            call(giver, rng, &asker, History::Apart, &mut other)?;
+            call(giver, rng, asker, History::Apart, &mut other)?;
             made += 1;
             giver.commands.table(&card.table)?;
         }
@@ -222,7 +295,8 @@ fn sequence(giver: &mut Giver<Expected>, rng: &mut Rng, slots: usize) -> Result<
 }
 
 /// Makes one call on the table lent to the driver and on the reference's, and
-/// has the table that it left tallied and listed.
+/// has the table that it left tallied and listed, and the right that it gave read
+/// back.
 fn call(
     giver: &mut Giver<Expected>,
     rng: &mut Rng,
@@ -236,19 +310,23 @@ fn call(
         frame: asker.frame(rng),
     };
     let carried_on = history != History::Apart && handed.tally == card.tally;
+    let before = card.table.clone();
     let call = call_both(giver, rng, &handed, &mut card.table)?;
     if call.number == DONE {
         card.tally = call.tally;
     }
-    let tallied = work_out_both(giver, rng, &card.table)?;
-    let listed = list_both(giver, rng, &card.table)?;
+    let answer = Answer {
+        read_back: read_back_both(giver, rng, &call)?,
+        tallied: work_out_both(giver, rng, &card.table)?,
+        listed: list_both(giver, rng, &card.table)?,
+        call,
+    };
     giver.expect(Expected {
         history,
         handed,
+        before,
         carried_on,
-        call,
-        tallied,
-        listed,
+        answer,
     })
 }
 
@@ -274,6 +352,21 @@ fn call_both(
         reply,
         table: table.to_vec(),
     })
+}
+
+/// Has the driver read the reply of a call that gave a right, and gives what the
+/// reference makes of it; `None` where the call gave none. The driver is handed
+/// the reference's reply, which is that of the archive too, or the call differs.
+fn read_back_both(giver: &mut Giver<Expected>, rng: &mut Rng, call: &Call) -> Result<Option<Read>> {
+    if call.number != DONE || call.reply[0] != 0x23 || call.reply[1] & 0x7F != 0 {
+        return Ok(None);
+    }
+    let length = 4 + usize::from(u16::from_be_bytes([call.reply[2], call.reply[3]]));
+    let frame = &call.reply[..length];
+    let key = [0; 16].map(|_: u8| rng.byte());
+    let numbers = Numbers::default().map(|_| rng.word());
+    giver.commands.read_reply(frame, &key, &numbers)?;
+    Ok(Some(device::expected(frame, key, numbers)))
 }
 
 /// Has the driver work out the tally of its table, in one that holds any numbers,
@@ -306,18 +399,16 @@ struct Checker {
 }
 
 impl Checker {
-    fn check(&mut self, given: &Call, tallied: &Tallied, listed: &Listed, expected: &Expected) {
-        let same = given
-            .same_as(&expected.call)
-            .and_then(|()| tallied.same_as(&expected.tallied))
-            .and_then(|()| listed.same_as(&expected.listed))
-            .and_then(|()| {
-                let outcome = Outcome::of(given.number, &expected.handed.frame, &given.reply);
-                self.seen.note(outcome, expected)?;
-                let first = first_line(listed);
-                *self.seen.listings.entry(first).or_default() += 1;
-                self.follow(expected, outcome, &given.table)
-            });
+    fn check(&mut self, given: &Answer, expected: &Expected) {
+        let same = given.same_as(&expected.answer).and_then(|()| {
+            let (call, frame) = (&given.call, &expected.handed.frame);
+            let outcome = Outcome::of(call.number, frame, &call.reply);
+            self.seen.note(outcome, expected)?;
+            self.seen.note_unhashed(&expected.before, frame, given)?;
+            let first = first_line(&given.listed);
+            *self.seen.listings.entry(first).or_default() += 1;
+            self.follow(expected, outcome, &call.table)
+        });
         if let Err(difference) = same {
             panic!(
                 "call {}, {}: {difference}",
@@ -331,7 +422,7 @@ impl Checker {
     /// Compares a table with its history, told by requests and statuses.
     fn follow(&mut self, call: &Expected, outcome: Outcome, table: &[u8]) -> Same {
         match call.history {
-            History::Apart => return Ok(()),
+            History::Apart | History::Untold => return Ok(()),
             History::Begins => self.ledger = Ledger::new(),
             History::GoesOn => {}
         }
@@ -382,11 +473,12 @@ fn describe(expected: &Expected) -> String {
     } = &expected.handed;
     let table = match expected.history {
         History::Apart => "damaged",
-        _ => "reached",
+        History::Begins | History::GoesOn => "reached",
+        History::Untold => "given",
     };
     format!(
         "on a {table} table of {} bytes, with {tally:?}, from {start}, with a frame of {} bytes that begins {:02x?}",
-        expected.call.table.len(),
+        expected.before.len(),
         frame.len(),
         &frame[..frame.len().min(64)]
     )

@@ -8,14 +8,77 @@ use random::Rng;
 use reference::{read_reply, write_request, Count, Handle, Key, Reply, Status, WriterFields};
 use reference::{HANDLE_BYTES, HASH_BYTES};
 use std::collections::BTreeMap;
+use std::fmt;
 
 /// How often each number occurred, with each kind asked for and what count and
 /// `kept` say.
 pub type WriterCounts = BTreeMap<(u16, u8, Handed), u64>;
 
-/// How often each number occurred, with each kind and status and what the reply
-/// says of a count; 203 has none of them.
-pub type ReaderCounts = BTreeMap<(u16, u8, u8, Counted), u64>;
+/// How often each of these was read.
+pub type ReaderCounts = BTreeMap<Told, u64>;
+
+/// What occurred among requests that were written or refused, and how often.
+#[derive(Default)]
+pub struct WriterSeen {
+    /// The numbers, with each kind asked for and what count and `kept` say.
+    pub counts: WriterCounts,
+    /// What came of requests without a hash.
+    pub without_hash: BTreeMap<WithoutHash, u64>,
+}
+
+/// What the writer gave for a request without a hash that it takes with one.
+#[derive(Clone, Copy, Debug, PartialEq, Eq, PartialOrd, Ord)]
+pub struct WithoutHash {
+    /// The kind, 2 or 8.
+    pub kind: u8,
+    /// Whether the buffer was too short for the frame without a hash.
+    pub short: bool,
+    /// The number given.
+    pub number: u16,
+}
+
+impl WithoutHash {
+    /// All that can occur: a query needs no hash, and an installation that has
+    /// none is refused before the buffer is looked at (PROFILE 6.2).
+    pub const ALL: [WithoutHash; 4] = {
+        const fn gives(kind: u8, short: bool, number: u16) -> WithoutHash {
+            WithoutHash {
+                kind,
+                short,
+                number,
+            }
+        }
+        [
+            gives(2, false, 202),
+            gives(2, true, 202),
+            gives(8, false, 0),
+            gives(8, true, 201),
+        ]
+    };
+}
+
+impl fmt::Display for WithoutHash {
+    fn fmt(&self, f: &mut fmt::Formatter<'_>) -> fmt::Result {
+        let WithoutHash { kind, number, .. } = self;
+        let buffer = if self.short { "short" } else { "long enough" };
+        write!(f, "no hash, kind {kind}, the buffer {buffer}: {number}")
+    }
+}
+
+/// What the reader told of a reply, in short; with 203 it tells nothing.
+#[derive(Clone, Copy, Debug, PartialEq, Eq, PartialOrd, Ord)]
+pub struct Told {
+    /// The number given.
+    pub number: u16,
+    /// The kind.
+    pub kind: u8,
+    /// The status.
+    pub status: u8,
+    /// The count.
+    pub counted: Counted,
+    /// Whether there is a hash, which only kind 3 can tell.
+    pub hashed: bool,
+}
 
 /// What the writer is handed as a count.
 #[derive(Clone, Copy, Debug, PartialEq, Eq, PartialOrd, Ord)]
@@ -93,7 +156,7 @@ impl OwnFields {
         let mut fields = OwnFields::default();
         let names: &[u8] = match kind {
             1 => b"hl",
-            2 => b"hkcap",
+            2 => b"hkcsp",
             3 | 4 => b"hn",
             5 => b"hc",
             6 | 7 | 9 => b"h",
@@ -119,6 +182,7 @@ impl OwnFields {
             }
             b'i' => self.limit = count(rng).number,
             b'a' => self.hashes = asker.hashes(rng),
+            b's' => self.hashes = asker.some_hashes(rng),
             _ => {
                 let length = payload_length(rng);
                 self.payload = rng.bytes(length);
@@ -128,7 +192,7 @@ impl OwnFields {
 
     /// Changes a field in a way that the writer may refuse.
     fn spoil(&mut self, rng: &mut Rng, asker: &Asker) {
-        match rng.below(8) {
+        match rng.below(9) {
             0 => {
                 let length = rng.pick(&[0, 1, 4096, 4097]);
                 self.payload = rng.bytes(length);
@@ -143,6 +207,7 @@ impl OwnFields {
                 self.count = rng.pick(&[0, 0, 0, 1, 0x100, 0xFFFF]);
                 self.kept = rng.pick(&[0, 0, 1, 1, 2, 255]);
             }
+            6 => self.hashes.clear(),
             _ => {
                 let name = rng.pick(b"hnklciap");
                 self.set(rng, asker, name);
@@ -156,8 +221,8 @@ impl OwnFields {
 /// # Panics
 ///
 /// Where the archive and the reference differ.
-pub fn compare_writers(mut rng: Rng, calls: u64) -> WriterCounts {
-    let mut counts = WriterCounts::new();
+pub fn compare_writers(mut rng: Rng, calls: u64) -> WriterSeen {
+    let mut seen = WriterSeen::default();
     pipeline::run(
         move |giver| {
             let asker = Asker::new(4);
@@ -179,20 +244,53 @@ pub fn compare_writers(mut rng: Rng, calls: u64) -> WriterCounts {
             if let Err(difference) = given.same_as(&expected) {
                 panic!("kind {kind} and {fields:02x?}: {difference}");
             }
-            let handed = Handed::of(fields.count, fields.kept);
-            *counts.entry((given.number, kind, handed)).or_default() += 1;
+            seen.note(kind, &fields, &given);
         },
     );
-    counts
+    seen
 }
 
-/// A buffer about as long as the frame.
-fn out_buffer(rng: &mut Rng, kind: u8, fields: &WriterFields<'_>) -> Vec<u8> {
+impl WriterSeen {
+    /// Notes a request that was written or refused as expected.
+    fn note(&mut self, kind: u8, fields: &OwnFields, given: &Written) {
+        let number = given.number;
+        let handed = Handed::of(fields.count, fields.kept);
+        *self.counts.entry((number, kind, handed)).or_default() += 1;
+        if let Some(length) = length_without_hash(kind, &fields.lent()) {
+            let without_hash = WithoutHash {
+                kind,
+                short: given.out.len() < length,
+                number,
+            };
+            *self.without_hash.entry(without_hash).or_default() += 1;
+        }
+    }
+}
+
+/// The length of the frame that the reference writes; `None` where it writes
+/// none.
+fn written_length(kind: u8, fields: &WriterFields<'_>) -> Option<usize> {
     let mut long = [0; 4300];
-    let length = match write_request(kind, fields, &mut long) {
-        0 => 4 + usize::from(u16::from_be_bytes([long[2], long[3]])),
-        _ => 40,
-    };
+    let number = write_request(kind, fields, &mut long);
+    (number == 0).then(|| 4 + usize::from(u16::from_be_bytes([long[2], long[3]])))
+}
+
+/// The length of the frame of a request without a hash, whether it is written or
+/// not; `None` where it has a hash, or would not be written with one either.
+fn length_without_hash(kind: u8, fields: &WriterFields<'_>) -> Option<usize> {
+    if !fields.hashes.is_empty() {
+        return None;
+    }
+    let hashes = &[1; HASH_BYTES];
+    let hashed = WriterFields { hashes, ..*fields };
+    Some(written_length(kind, &hashed)? - HASH_BYTES)
+}
+
+/// A buffer about as long as the frame, or as the one that is missing a hash.
+fn out_buffer(rng: &mut Rng, kind: u8, fields: &WriterFields<'_>) -> Vec<u8> {
+    let length = written_length(kind, fields)
+        .or_else(|| length_without_hash(kind, fields))
+        .unwrap_or(40);
     let room = match rng.below(6) {
         0 => rng.below(length),
         1 => length - 1,
@@ -212,24 +310,43 @@ pub fn compare_readers(rng: Rng, calls: u64) -> ReaderCounts {
     let asker = Asker::new(4);
     let replies = move |rng: &mut Rng, _| asker.reply(rng);
     read_each(rng, calls, replies, |_, given| {
-        let told = match given.number {
-            0 => told(given),
-            number => (number, 0, 0, Counted::Nothing),
-        };
-        *counts.entry(told).or_default() += 1;
+        *counts.entry(Told::of(given)).or_default() += 1;
     });
     counts
 }
 
-/// Kind, status and count of a reply that was read.
-fn told(given: &Read) -> (u16, u8, u8, Counted) {
-    let [kind, status] = [given.numbers[0] as u8, given.numbers[1] as u8];
-    let counted = match (kind, status) {
-        (3 | 9, 0) => Count::said(given.numbers[10] != 0, given.numbers[2])
-            .map_or(Counted::Nothing, Counted::of),
-        _ => Counted::Nothing,
+impl Told {
+    /// What 203 tells.
+    pub const NOTHING: Told = Told {
+        number: 203,
+        kind: 0,
+        status: 0,
+        counted: Counted::Nothing,
+        hashed: false,
     };
-    (given.number, kind, status, counted)
+
+    fn of(given: &Read) -> Told {
+        let number = given.number;
+        if number != 0 {
+            return Told {
+                number,
+                ..Told::NOTHING
+            };
+        }
+        let [kind, status] = [given.numbers[0] as u8, given.numbers[1] as u8];
+        let counted = match (kind, status) {
+            (3 | 9, 0) => Count::said(given.numbers[10] != 0, given.numbers[2])
+                .map_or(Counted::Nothing, Counted::of),
+            _ => Counted::Nothing,
+        };
+        Told {
+            number,
+            kind,
+            status,
+            counted,
+            hashed: given.numbers[3] != 0,
+        }
+    }
 }
 
 /// Has these replies read, and checks each. Gives those accepted.
@@ -279,7 +396,7 @@ fn read_each(
 }
 
 /// What the reference reads in a reply, in the form that the archive gives.
-fn expected(frame: &[u8], key: Key, numbers: Numbers) -> Read {
+pub(crate) fn expected(frame: &[u8], key: Key, numbers: Numbers) -> Read {
     match read_reply(frame) {
         Err(number) => Read {
             number,

@@ -33,6 +33,11 @@ impl Asker {
         }
     }
 
+    /// All the handles, each once.
+    pub fn handles(&self) -> &[Handle] {
+        &self.handles
+    }
+
     /// One of the handles.
     pub fn handle(&self, rng: &mut Rng) -> Handle {
         rng.pick(&self.handles)
@@ -40,7 +45,15 @@ impl Asker {
 
     /// Up to 8 hashes, one after another; two may be equal.
     pub fn hashes(&self, rng: &mut Rng) -> Vec<u8> {
-        let count = rng.pick(&[0, 0, 0, 1, 1, 1, 2, 3, 7, 8]);
+        match rng.below(10) {
+            0..3 => Vec::new(),
+            _ => self.some_hashes(rng),
+        }
+    }
+
+    /// As many hashes as a right may be installed with, 1 to 8.
+    pub fn some_hashes(&self, rng: &mut Rng) -> Vec<u8> {
+        let count = rng.pick(&[1, 1, 1, 2, 3, 7, 8]);
         (0..count).flat_map(|_| rng.pick(&self.hashes)).collect()
     }
 
@@ -86,12 +99,16 @@ impl Asker {
         }
     }
 
+    /// The body of an installation. One in six has no hash.
     fn installation(&self, rng: &mut Rng, handle: &Handle, count: u16, payload: usize) -> Vec<u8> {
         let key = match rng.below(8) {
             0 => vec![0; 16],
             _ => rng.bytes(16),
         };
-        let hashes = self.hashes(rng);
+        let hashes = match rng.below(6) {
+            0 => Vec::new(),
+            _ => self.some_hashes(rng),
+        };
         [
             handle,
             &key[..],
@@ -155,7 +172,7 @@ impl Asker {
             0 => any(rng, 0),
             1 => any(rng, 0xFFFF),
             2..5 => {
-                let length = rng.pick(&[9, 11, 12, 13, 19, 20, 21, 29, 30, 31]);
+                let length = rng.pick(&[9, 11, 12, 13, 19, 20, 21, 29, 30, 31, 49, 50]);
                 any(rng, length)
             }
             _ => {
@@ -216,12 +233,12 @@ fn spoil_length(rng: &mut Rng, frame: &mut Vec<u8>) {
 
 /// Changes the hash count of kind 2 or of kind 8, if the frame has its byte.
 fn spoil_hash_count(rng: &mut Rng, frame: &mut [u8]) {
-    let (at, counts) = match frame[0] & 31 {
-        2 => (32, [0x10, 0x90, 0xF0, 0x81, 0x04]),
-        _ => (6, [1, 8, 9, 16, 255]),
+    let (at, counts): (usize, &[u8]) = match frame[0] & 31 {
+        2 => (32, &[0x00, 0x10, 0x90, 0xF0, 0x81, 0x04]),
+        _ => (6, &[1, 8, 9, 16, 255]),
     };
     if let Some(byte) = frame.get_mut(at) {
-        *byte = rng.pick(&counts);
+        *byte = rng.pick(counts);
     }
 }
 

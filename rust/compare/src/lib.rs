@@ -10,7 +10,7 @@
 //! | [`frames`] | request frames at random, right and wrong ones |
 //! | [`starts`] | starts at random, right and wrong ones |
 //! | [`tallies`] | tallies at random, right and wrong ones |
-//! | [`tables`] | damaged tables, old ones, and buffers for replies and listings |
+//! | [`tables`] | damaged tables, old ones, some with rights without a hash, and buffers for replies and listings |
 //! | [`pipeline`] | many commands on their way at once |
 //! | [`calls`] | many calls, made at random and checked |
 //! | [`device`] | requests written and replies read, at random |

@@ -1,7 +1,12 @@
 //! Which outcomes calls had, and which they must have had.
 
-use driver::Call;
-use reference::{read_request, slot, table, Count, Kind, ReadRequest, MAX_PAYLOAD};
+use crate::frames::frame as request_frame;
+use crate::tallies::tally_of;
+use driver::{Call, Read, Same};
+use reference::number::DONE;
+use reference::slot::SlotBytes;
+use reference::{read_request, slot, table, Count, Kind, Place, ReadRequest};
+use reference::{HANDLE_BYTES, HASH_BYTES, MAX_PAYLOAD, REPLY_ROOM};
 use std::cmp::Ordering;
 use std::collections::BTreeMap;
 use std::fmt;
@@ -186,6 +191,176 @@ impl fmt::Display for Search {
             Taken::Nothing => "none is empty",
         };
         write!(f, "setup from {from}: {taken}")
+    }
+}
+
+/// What came of a request about rights without a hash (PROFILE 2.9).
+#[derive(Clone, Copy, Debug, PartialEq, Eq, PartialOrd, Ord)]
+pub enum Unhashed {
+    /// An installation without a hash was answered.
+    Installation {
+        /// The status that it had.
+        status: u8,
+        /// The status that the same request has with a hash.
+        with_one: u8,
+    },
+    /// A list from which no handle was left off.
+    List {
+        /// Whether handles were asked for by hash, and not all of them.
+        by_hash: bool,
+        /// Whether the handle of an enabled record without a hash was on it.
+        listed: bool,
+    },
+    /// A request about a record without a hash succeeded.
+    Success {
+        /// The kind.
+        kind: u8,
+        /// The place of the record before.
+        from: Place,
+        /// The place of its slot afterwards.
+        to: Place,
+    },
+    /// The reply to kind 3 was read back, and has no hash.
+    ReadBack,
+}
+
+impl Unhashed {
+    /// All that came of a call with this frame on the table `before`.
+    pub fn all_of(before: &[u8], frame: &[u8], call: &Call) -> Vec<Unhashed> {
+        if call.number != DONE {
+            return Vec::new();
+        }
+        match (call.reply[0] & 31, call.reply[1]) {
+            (2, status) => {
+                let with_one = status_with_a_hash(before, frame);
+                let installation = |with_one| Unhashed::Installation { status, with_one };
+                with_one.map(installation).into_iter().collect()
+            }
+            (8, 0) if call.reply[4] == 0 => listed(before, frame[6] > 0, &call.reply),
+            (kind @ (4..=6), 0) | (kind @ (3 | 9), 0 | 0x80) => {
+                success(before, kind, &frame[4..4 + HANDLE_BYTES], call)
+                    .into_iter()
+                    .collect()
+            }
+            _ => Vec::new(),
+        }
+    }
+
+    /// What came of reading a reply to kind 3 back; `None` where it has a hash.
+    pub fn of_reply(read: &Read) -> Option<Unhashed> {
+        let [kind, status, _, hashes, ..] = read.numbers;
+        ((read.number, kind, status, hashes) == (DONE, 3, 0, 0)).then_some(Unhashed::ReadBack)
+    }
+
+    /// All that can occur. An installation without a hash is status 2 whatever it
+    /// is with one, but for 1, whose test comes before (PROFILE 5.2).
+    pub fn that_can_occur() -> Vec<Unhashed> {
+        use Place::{Disabled, Empty, Enabled};
+        let installations = [(2, 0), (1, 1), (2, 2), (2, 4), (2, 6), (2, 7)];
+        let lists = [(false, true), (true, false)];
+        let successes = [
+            (3, Enabled, Disabled),
+            (4, Enabled, Disabled),
+            (5, Disabled, Enabled),
+            (5, Enabled, Enabled),
+            (6, Enabled, Empty),
+            (6, Disabled, Empty),
+            (9, Enabled, Enabled),
+        ];
+        let mut all = vec![Unhashed::ReadBack];
+        all.extend(
+            installations.map(|(status, with_one)| Unhashed::Installation { status, with_one }),
+        );
+        all.extend(lists.map(|(by_hash, listed)| Unhashed::List { by_hash, listed }));
+        all.extend(successes.map(|(kind, from, to)| Unhashed::Success { kind, from, to }));
+        all
+    }
+}
+
+/// The status that the request has on this table if a hash is put into it;
+/// `None` where it is not of the shape of an installation without a hash, or too
+/// long to have one.
+fn status_with_a_hash(table: &[u8], frame: &[u8]) -> Option<u8> {
+    const HASH_BYTE: usize = 10 + 16 + 2;
+    let mut body = frame[4..].to_vec();
+    if body.len() <= HASH_BYTE + 1 || body[HASH_BYTE] >> 4 != 0 {
+        return None;
+    }
+    body[HASH_BYTE] |= 0x10;
+    body.splice(HASH_BYTE + 1..HASH_BYTE + 1, [1; HASH_BYTES]);
+    u16::try_from(body.len()).ok()?;
+    let mut hashed = request_frame(2, frame[1], &body);
+    hashed[0] = frame[0];
+    let (mut table, mut tally) = (table.to_vec(), tally_of(table).into());
+    let mut reply = [0; REPLY_ROOM];
+    let number = reference::call(&mut table, &mut tally, 0, &hashed, &mut reply);
+    (number == DONE).then_some(reply[1])
+}
+
+/// For each enabled record without a hash, whether its handle is on a list.
+fn listed(table: &[u8], by_hash: bool, reply: &[u8]) -> Vec<Unhashed> {
+    let end = 4 + usize::from(u16::from_be_bytes([reply[2], reply[3]]));
+    let handles = reply[5..end].as_chunks::<HANDLE_BYTES>().0;
+    let slots = table::slots(table).iter();
+    slots
+        .filter(|slot| is_unhashed(slot) && slot::place(slot) == Place::Enabled)
+        .map(|slot| Unhashed::List {
+            by_hash,
+            listed: handles.contains(&slot::handle(slot)),
+        })
+        .collect()
+}
+
+/// The success of a request about the record under this handle; `None` where the
+/// record has a hash.
+fn success(before: &[u8], kind: u8, handle: &[u8], call: &Call) -> Option<Unhashed> {
+    let mut slots = table::slots(before).iter();
+    let at = slots.position(|slot| is_unhashed(slot) && slot::handle(slot) == handle)?;
+    let [from, to] = [before, &call.table].map(|table| slot::place(&table::slots(table)[at]));
+    Some(Unhashed::Success { kind, from, to })
+}
+
+/// Whether the slot holds a right without a hash.
+fn is_unhashed(slot: &SlotBytes) -> bool {
+    slot::place(slot) >= Place::Enabled && slot::hash_count(slot) == 0
+}
+
+/// Whether each right without a hash was on the card before, in the same slot and
+/// with the same key and payload (PROFILE 8.6).
+///
+/// # Errors
+///
+/// A sentence, where one has come.
+pub fn none_comes(before: &[u8], after: &[u8]) -> Same {
+    let slots = table::slots(before).iter().zip(table::slots(after));
+    for (index, (old, new)) in slots.enumerate() {
+        let same = is_unhashed(old)
+            && slot::key(old) == slot::key(new)
+            && slot::payload(old) == slot::payload(new);
+        if is_unhashed(new) && !same {
+            return Err(format!("a right without a hash has come to slot {index}"));
+        }
+    }
+    Ok(())
+}
+
+impl fmt::Display for Unhashed {
+    fn fmt(&self, f: &mut fmt::Formatter<'_>) -> fmt::Result {
+        match *self {
+            Unhashed::Installation { status, with_one } => {
+                write!(f, "no hash, kind 2: status {status}, {with_one} with one")
+            }
+            Unhashed::List { by_hash, listed } => {
+                let asked = if by_hash { "by hash" } else { "with all" };
+                let not = if listed { "" } else { "not " };
+                write!(f, "no hash, asked for {asked}: {not}listed")
+            }
+            Unhashed::Success { kind, from, to } => {
+                let (from, to) = (from.word(), to.word());
+                write!(f, "no hash, kind {kind}: {from}, then {to}")
+            }
+            Unhashed::ReadBack => f.write_str("no hash, kind 3: the reply read back"),
+        }
     }
 }
 

@@ -1,8 +1,9 @@
-//! Damaged tables, tables from before a count had its bit, and buffers for
-//! replies and listings.
+//! Damaged tables, tables from before a count had its bit, tables with rights
+//! without a hash, and buffers for replies and listings.
 
+use crate::frames::{count, payload_length, Asker};
 use random::Rng;
-use reference::{MAX_SLOTS, REPLY_ROOM, SLOT_BYTES};
+use reference::{Handle, HASH_BYTES, MAX_SLOTS, REPLY_ROOM, SLOT_BYTES};
 
 /// Room for the longest listing: a header of 31 bytes, and 15 lines of 25.
 const LISTING_ROOM: usize = 406;
@@ -16,6 +17,52 @@ const SPARE: u8 = 0x01;
 /// A table of empty slots.
 pub fn blank(slots: usize) -> Vec<u8> {
     vec![0; slots * SLOT_BYTES]
+}
+
+/// A well-formed table as no calls on a blank one leave it: two rights in three
+/// have no hash (PROFILE 2.9). The handles are some of those that `asker` asks
+/// for.
+pub fn with_unhashed(rng: &mut Rng, asker: &Asker, slots: usize) -> Vec<u8> {
+    let mut handles = asker.handles().to_vec();
+    let first = rng.below(handles.len());
+    handles.rotate_left(first);
+    let handles = handles.iter().take(slots);
+    handles
+        .flat_map(|handle| any_record(rng, asker, handle))
+        .collect()
+}
+
+/// A slot in any place, under this handle if it is not empty.
+fn any_record(rng: &mut Rng, asker: &Asker, handle: &Handle) -> Vec<u8> {
+    let mut slot = vec![0; SLOT_BYTES];
+    let place = rng.pick(&[0, 1, 1, 2, 2, 2, 2, 3, 3]);
+    let length = match place {
+        0 => return slot,
+        1 => rng.pick(&[1, 40, 4096, 4096]),
+        _ => payload_length(rng),
+    };
+    slot[0] = place << 6;
+    slot[1..11].copy_from_slice(handle);
+    slot[29..31].copy_from_slice(&(length as u16).to_be_bytes());
+    if place > 1 {
+        put_right(rng, asker, &mut slot, length);
+    }
+    slot
+}
+
+/// Puts a right of this length into a slot: key, count, hashes or none, payload.
+fn put_right(rng: &mut Rng, asker: &Asker, slot: &mut [u8], length: usize) {
+    let count = count(rng);
+    let hashes = match rng.below(3) {
+        0 => asker.some_hashes(rng),
+        _ => Vec::new(),
+    };
+    slot[0] |= ((hashes.len() / HASH_BYTES) as u8) << 2;
+    slot[0] |= if count.kept { KEPT } else { 0 };
+    slot[11..27].copy_from_slice(&rng.bytes(16));
+    slot[27..29].copy_from_slice(&count.number.to_be_bytes());
+    slot[31..31 + hashes.len()].copy_from_slice(&hashes);
+    slot[192..192 + length].copy_from_slice(&rng.bytes(length));
 }
 
 /// A whole table with some damage. Some damage leaves it well formed: a

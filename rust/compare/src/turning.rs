@@ -3,11 +3,11 @@
 use crate::frames::Asker;
 use crate::pipeline::{self, Giver};
 use crate::starts::inside;
-use crate::tables::{before_turning, blank, damaged};
+use crate::tables::{before_turning, blank, damaged, with_unhashed};
 use crate::tallies::tally_of;
 use driver::Turned;
 use random::Rng;
-use reference::{MAX_SLOTS, REPLY_ROOM};
+use reference::{slot, table, MAX_SLOTS, REPLY_ROOM};
 use std::collections::BTreeMap;
 use std::fmt;
 use std::io::Result;
@@ -27,24 +27,34 @@ pub enum Turning {
     NothingToTurn,
     /// It gave 0, and set a bit.
     Turned,
+    /// It gave 0, and set the bit of a right without a hash.
+    TurnedUnhashed,
 }
 
 impl Turning {
     /// All that can come of a turning.
-    pub const ALL: [Turning; 4] = [
+    pub const ALL: [Turning; 5] = [
         Turning::Refused(102),
         Turning::Refused(103),
         Turning::NothingToTurn,
         Turning::Turned,
+        Turning::TurnedUnhashed,
     ];
 
     fn of(before: &[u8], given: &Turned) -> Turning {
         match (given.number, given.table == before) {
             (0, true) => Turning::NothingToTurn,
+            (0, false) if turned_unhashed(before, &given.table) => Turning::TurnedUnhashed,
             (0, false) => Turning::Turned,
             (number, _) => Turning::Refused(number),
         }
     }
+}
+
+/// Whether a turning changed a slot that has no hash.
+fn turned_unhashed(before: &[u8], after: &[u8]) -> bool {
+    let mut slots = table::slots(before).iter().zip(table::slots(after));
+    slots.any(|(old, new)| old != new && slot::hash_count(new) == 0)
 }
 
 impl fmt::Display for Turning {
@@ -53,6 +63,7 @@ impl fmt::Display for Turning {
             Turning::Refused(number) => write!(f, "turning: {number}"),
             Turning::NothingToTurn => f.write_str("turning: 0, nothing to turn"),
             Turning::Turned => f.write_str("turning: 0"),
+            Turning::TurnedUnhashed => f.write_str("turning: 0, a right without a hash turned"),
         }
     }
 }
@@ -93,12 +104,15 @@ pub fn compare_turnings(mut rng: Rng, turnings: u64) -> BTreeMap<Turning, u64> {
     counts
 }
 
-/// Fills a table by requests, and has it turned as it is and as it was before a
-/// count had its bit, whole and damaged, and once more where it was turned.
-/// Gives how many turnings it made.
+/// Fills a table by requests, a blank one or one with rights without a hash, and
+/// has it turned as it is and as it was before a count had its bit, whole and
+/// damaged, and once more where it was turned. Gives how many turnings it made.
 fn fill_and_turn(giver: &mut Giver<Expected>, rng: &mut Rng, slots: usize) -> Result<u64> {
     let asker = Asker::new(slots);
-    let mut table = blank(slots);
+    let mut table = match rng.below(2) {
+        0 => blank(slots),
+        _ => with_unhashed(rng, &asker, slots),
+    };
     let mut tally = tally_of(&table).into();
     let mut made = 0;
     for step in 0..REQUESTS {

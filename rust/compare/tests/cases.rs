@@ -1,6 +1,6 @@
-//! Cases 13 to 17 of the card profile (PROFILE 9.2, 9.3), what else is refused for
-//! the bit of a count, and the fullest card that there can be. All calls have the
-//! start 0 and the tally of their table.
+//! Cases 13 to 17, 22 and 23 of the card profile (PROFILE 9.2, 9.3, 9.6), what else
+//! is refused for the bit of a count or for a missing hash, and the fullest card
+//! that there can be. All calls have the start 0 and the tally of their table.
 
 use compare::both::Both;
 use compare::frames::{frame, KINDS_OUTSIDE};
@@ -74,15 +74,24 @@ fn case_15_tables_of_other_lengths_are_102() {
     }
 }
 
-/// The handles, the key and the payload of cases 16 and 17.
+/// The handles, the key, the hash and the payload of cases 16, 17, 22 and 23.
 const H1: [u8; 10] = [1; 10];
 const H2: [u8; 10] = [2; 10];
 const K: [u8; 16] = [1, 2, 3, 4, 5, 6, 7, 8, 9, 10, 11, 12, 13, 14, 15, 16];
+const A: [u8; 20] = [
+    0xA0, 0xA1, 0xA2, 0xA3, 0xA4, 0xA5, 0xA6, 0xA7, 0xA8, 0xA9, 0xAA, 0xAB, 0xAC, 0xAD, 0xAE, 0xAF,
+    0xB0, 0xB1, 0xB2, 0xB3,
+];
 const P5: [u8; 5] = [0xA1, 0xA2, 0xA3, 0xA4, 0xA5];
 
-/// The body of an installation under H1, without hashes.
+/// The body of an installation under H1, with one hash.
 fn installation(count: u16) -> Vec<u8> {
-    [&H1[..], &K, &count.to_be_bytes(), &[0], &P5].concat()
+    [&H1[..], &K, &count.to_be_bytes(), &[0x10], &A, &P5].concat()
+}
+
+/// The body of an installation under H1 that has no hash.
+fn unhashed(payload: &[u8]) -> Vec<u8> {
+    [&H1[..], &K, &[0, 0, 0], payload].concat()
 }
 
 /// The body of a return of H2.
@@ -113,18 +122,18 @@ fn step(both: &mut Both, frame: &[u8], expected: &[u8], byte_0: u8, number: u16)
 fn case_16_a_count_that_is_used_up_stays_used_up() {
     let both = &mut after_setup(&frame(2, 0xC0, &installation(1)));
     let lent = [&[0x24, 0, 0, 16][..], &K].concat();
-    step(both, &frame(4, 0x80, &[H1, H2].concat()), &lent, 0xC2, 1);
+    step(both, &frame(4, 0x80, &[H1, H2].concat()), &lent, 0xC6, 1);
     let returned = [0x25, 0, 0, 0];
-    step(both, &frame(5, 0xC0, &returning(0)), &returned, 0x82, 0);
+    step(both, &frame(5, 0xC0, &returning(0)), &returned, 0x86, 0);
     // sent again, with and without a count: a success that changes nothing
     for (second, number) in [(0xC0, 9), (0x80, 0), (0xC0, 0)] {
         let again = frame(5, second, &returning(number));
-        step(both, &again, &returned, 0x82, 0);
+        step(both, &again, &returned, 0x86, 0);
     }
     let told = [&[0x29, 0x80, 0, 7, 0, 0][..], &P5].concat();
-    step(both, &frame(9, 0x80, &H2), &told, 0x82, 0);
-    let right = [&[0x23, 0x80, 0, 0x18][..], &K, &[0, 0, 0], &P5].concat();
-    step(both, &frame(3, 0x80, &[H2, H1].concat()), &right, 0xC2, 0);
+    step(both, &frame(9, 0x80, &H2), &told, 0x86, 0);
+    let right = [&[0x23, 0x80, 0, 0x2C][..], &K, &[0, 0, 0x10], &A, &P5].concat();
+    step(both, &frame(3, 0x80, &[H2, H1].concat()), &right, 0xC6, 0);
     step(both, &frame(6, 0x80, &H1), &[0x26, 0, 0, 0], 0, 0);
     assert!(both.table() == blank(1));
 }
@@ -136,7 +145,7 @@ fn a_return_stores_the_bit_with_the_number() {
     let both = &mut after_setup(&frame(2, 0x80, &installation(0)));
     let lent = [&[0x24, 0, 0, 16][..], &K].concat();
     let returned = [0x25, 0, 0, 0];
-    let (mut byte_0, mut number) = (0x80, 0);
+    let (mut byte_0, mut number) = (0x84, 0);
     let (mut from, mut to) = (H1, H2);
     for (kept, sent) in [
         (false, 0),
@@ -150,7 +159,7 @@ fn a_return_stores_the_bit_with_the_number() {
         let lending = frame(4, 0x80, &[from, to].concat());
         step(both, &lending, &lent, byte_0 + 0x40, number);
         let second = if kept { 0xC0 } else { 0x80 };
-        (byte_0, number) = (if kept { 0x82 } else { 0x80 }, sent);
+        (byte_0, number) = (if kept { 0x86 } else { 0x84 }, sent);
         let back = frame(5, second, &[&to[..], &sent.to_be_bytes()].concat());
         step(both, &back, &returned, byte_0, number);
         (from, to) = (to, from);
@@ -176,7 +185,7 @@ fn case_17_a_count_without_its_bit_is_2() {
     reply(both, &frame(4, 0x80, &[H1, H2].concat()));
     for number in [3, 1, 0xFF, 0x100, 0xFFFF] {
         let refused = [0x25, 2, 0, 0];
-        step(both, &frame(5, 0x80, &returning(number)), &refused, 0xC0, 0);
+        step(both, &frame(5, 0x80, &returning(number)), &refused, 0xC4, 0);
     }
 }
 
@@ -202,7 +211,7 @@ fn a_count_without_its_bit_is_tested_in_its_order() {
     ];
     for (sent, status) in rows {
         let refused = [sent[0], *status, 0, 0];
-        step(both, sent, &refused, 0x80, 0);
+        step(both, sent, &refused, 0x84, 0);
     }
 }
 
@@ -218,10 +227,159 @@ fn the_bit_of_a_count_in_other_kinds_is_2() {
         for body in bodies {
             for second in [0x40, 0xC0] {
                 let refused = [0x20 + kind, 2, 0, 0];
-                step(&mut both, &frame(kind, second, body), &refused, 0x82, 1);
+                step(&mut both, &frame(kind, second, body), &refused, 0x86, 1);
             }
         }
     }
+}
+
+/// Case 22: an installation without a hash is status 2, whether anything has its
+/// handle or not; without the verdict it is 1.
+#[test]
+fn case_22_an_installation_without_a_hash_is_2() {
+    let both = &mut Both::on(blank(1));
+    let body = unhashed(&P5);
+    assert_eq!(reply(both, &frame(2, 0x80, &body)), [0x22, 2, 0, 0]);
+    assert!(both.table() == blank(1));
+    reply(both, &setup());
+    step(both, &frame(2, 0x80, &body), &[0x22, 2, 0, 0], 0x40, 0);
+    step(both, &frame(2, 0x00, &body), &[0x22, 1, 0, 0], 0x40, 0);
+    // with a hash the same reservation takes the right
+    let hashed = frame(2, 0x80, &installation(0));
+    step(both, &hashed, &[0x22, 0, 0, 0], 0x84, 0);
+}
+
+/// On a reservation that has room, bodies from one byte short of the shortest to
+/// a few bytes over the first that passes, with every number of hashes: 2 before
+/// the verdict for fewer than 30 bytes, else 1 without the verdict, and with it 2
+/// unless there is a hash and a payload after the hashes.
+#[test]
+fn short_installations_are_refused_in_their_order() {
+    let mut both = Both::on(reserved());
+    for length in 29..=54 {
+        for hashes in 0..16 {
+            let mut body = [&H1[..], &[7; 44]].concat();
+            body[28] = hashes << 4;
+            let body = &body[..length];
+            let room = length.saturating_sub(29 + 20 * usize::from(hashes));
+            let right = (1..=8).contains(&hashes) && room > 0;
+            for (second, status) in [(0xC0, if right { 0 } else { 2 }), (0x40, 1)] {
+                let status = if length < 30 { 2 } else { status };
+                both.go_on(reserved());
+                let given = reply(&mut both, &frame(2, second, body));
+                assert_eq!(given, [0x22, status, 0, 0], "{length}, {hashes}");
+            }
+        }
+    }
+}
+
+/// A table of one slot after a setup of 4,096 bytes under H1.
+fn reserved() -> Vec<u8> {
+    let mut table = blank(1);
+    table[0] = 0x40;
+    table[1..11].copy_from_slice(&H1);
+    table[29] = 0x10;
+    table
+}
+
+/// A missing hash comes after the verdict and before anything is looked up: each
+/// request without one has a fault of the table as well, and gets it with one.
+#[test]
+fn a_missing_hash_is_tested_in_its_order() {
+    let long = [0; 4096];
+    let mut taken = Both::on(old());
+    let mut small = Both::on(blank(1));
+    reply(&mut small, &setup());
+    let mut absent = Both::on(blank(1));
+    let rows = [(&mut taken, 6), (&mut small, 7), (&mut absent, 4)];
+    for (both, status) in rows {
+        let hashed = [&H1[..], &K, &[0, 0, 0x10], &A, &long].concat();
+        let given = reply(both, &frame(2, 0x80, &hashed));
+        assert_eq!(given, [0x22, status, 0, 0]);
+        for payload in [&P5[..], &long, &[0; 4097]] {
+            let body = unhashed(payload);
+            let given = reply(both, &frame(2, 0x80, &body));
+            assert_eq!(given, [0x22, 2, 0, 0], "not {status}");
+            assert_eq!(reply(both, &frame(2, 0x00, &body)), [0x22, 1, 0, 0]);
+        }
+    }
+}
+
+/// The slot *old* of case 23: a right for use, without a hash.
+fn old() -> Vec<u8> {
+    let mut table = blank(1);
+    table[0] = 0x80;
+    table[1..11].copy_from_slice(&H1);
+    table[11..27].copy_from_slice(&K);
+    table[30] = 5;
+    table[192..197].copy_from_slice(&P5);
+    table
+}
+
+/// The slot *old, lent* of case 23.
+fn old_lent() -> Vec<u8> {
+    let mut table = old();
+    table[0] = 0xC0;
+    table[1..11].copy_from_slice(&H2);
+    table
+}
+
+/// Case 23: a right without a hash is listed with all others and by no hash, and
+/// is read, lent, retrieved, returned and removed like any other.
+#[test]
+fn case_23_rights_without_a_hash_stay_what_they_were() {
+    let key = [&[0x24, 0, 0, 16][..], &K].concat();
+    let right = [&[0x23, 0, 0, 0x18][..], &K, &[0, 0, 0], &P5].concat();
+    let mut returned = old();
+    returned[1..11].copy_from_slice(&H2);
+    let lending = [H1, H2].concat();
+    let by_hash = [&[0, 0, 1][..], &A].concat();
+    let listed = [&[0x28, 0, 0, 11, 0][..], &H1].concat();
+    let told = [&[0x29, 0, 0, 7, 0, 0][..], &P5].concat();
+    let removed = vec![0x26, 0, 0, 0];
+    let rows = [
+        (old(), frame(8, 0x80, &[0, 0, 0]), listed, old()),
+        (
+            old(),
+            frame(8, 0x80, &by_hash),
+            vec![0x28, 0, 0, 1, 0],
+            old(),
+        ),
+        (old(), frame(9, 0x80, &H1), told, old()),
+        (old(), frame(4, 0x80, &lending), key, old_lent()),
+        (old(), frame(3, 0x80, &lending), right, old_lent()),
+        (
+            old_lent(),
+            frame(5, 0x80, &returning(0)),
+            vec![0x25, 0, 0, 0],
+            returned,
+        ),
+        (old(), frame(6, 0x80, &H1), removed.clone(), blank(1)),
+        (old_lent(), frame(6, 0x80, &H2), removed, blank(1)),
+    ];
+    for (before, sent, expected, after) in rows {
+        let mut both = Both::on(before);
+        assert_eq!(reply(&mut both, &sent), expected, "{sent:02x?}");
+        assert!(both.table() == after, "{sent:02x?}");
+    }
+}
+
+/// Each of 8 hashes finds the right, and the zeros of a right without one are no
+/// hash.
+#[test]
+fn a_right_is_found_by_each_of_its_hashes() {
+    let hashes: Vec<[u8; 20]> = (0..8).map(|n| [n * 3; 20]).collect();
+    let body = [&H2[..], &K, &[0, 0, 0x80], hashes.as_flattened(), &P5].concat();
+    let mut both = Both::on([old(), blank(1)].concat());
+    reply(&mut both, &frame(1, 0x80, &[&H2[..], &[0, 5]].concat()));
+    assert_eq!(reply(&mut both, &frame(2, 0x80, &body)), [0x22, 0, 0, 0]);
+    for hash in hashes {
+        let query = frame(8, 0x80, &[&[0, 0, 1][..], &hash].concat());
+        let found = [&[0x28, 0, 0, 11, 0][..], &H2].concat();
+        assert_eq!(reply(&mut both, &query), found, "{hash:02x?}");
+    }
+    let all = [&[0x28, 0, 0, 21, 0][..], &H1, &H2].concat();
+    assert_eq!(reply(&mut both, &frame(8, 0x80, &[0, 0, 0])), all);
 }
 
 /// What a slot may say of a count, by its place: byte 0 and the count number.

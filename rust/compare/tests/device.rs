@@ -1,9 +1,9 @@
 //! The device's end at random: the archive writes the requests and reads the
 //! replies that the reference writes and reads, and refuses what it refuses.
 
-use compare::device::{accepted, compare_readers, compare_writers, Handed};
+use compare::device::{accepted, compare_readers, compare_writers, Handed, Told, WithoutHash};
 use compare::frames::frame;
-use compare::outcome::Counted;
+use compare::outcome::{assert_all_occurred, Counted};
 use random::{setting, Rng};
 use std::collections::BTreeSet;
 
@@ -16,7 +16,9 @@ fn calls() -> u64 {
 
 #[test]
 fn requests_are_written_as_the_reference_writes_them() {
-    let counts = compare_writers(Rng::announced("requests written"), calls());
+    let seen = compare_writers(Rng::announced("requests written"), calls());
+    assert_all_occurred(&seen.without_hash, WithoutHash::ALL.to_vec());
+    let counts = seen.counts;
     for ((number, kind, handed), count) in &counts {
         println!("{count:>9}  {number} kind {kind}, {handed:?}");
     }
@@ -49,21 +51,39 @@ fn numbers(kind: u8) -> Vec<(u16, u8, Handed)> {
 #[test]
 fn replies_are_read_as_the_reference_reads_them() {
     let counts = compare_readers(Rng::announced("replies read"), calls());
-    for ((number, kind, status, counted), count) in &counts {
-        println!("{count:>9}  {number} kind {kind} status {status}, {counted}");
+    for (told, count) in &counts {
+        println!("{count:>9}  {told:?}");
     }
-    let mut expected = BTreeSet::from([(203, 0, 0, Counted::Nothing)]);
+    let mut expected = BTreeSet::from([Told::NOTHING]);
     for kind in 0..32 {
-        expected.extend((1..=7).map(|status| (0, kind, status, Counted::Nothing)));
-        let counts: &[Counted] = match kind {
-            3 | 9 => &Counted::COUNTS,
-            1..=9 => &[Counted::Nothing],
-            _ => &[],
-        };
-        expected.extend(counts.iter().map(|&counted| (0, kind, 0, counted)));
+        expected.extend((1..=7).map(|status| told(kind, status, Counted::Nothing, false)));
+        expected.extend(successes(kind));
     }
     let seen: BTreeSet<_> = counts.keys().copied().collect();
     assert_eq!(seen, expected, "all that can occur, and no more");
+}
+
+fn told(kind: u8, status: u8, counted: Counted, hashed: bool) -> Told {
+    Told {
+        number: 0,
+        kind,
+        status,
+        counted,
+        hashed,
+    }
+}
+
+/// What a success of this kind can tell: kind 3 any count, with hashes and
+/// without, kind 9 any count.
+fn successes(kind: u8) -> Vec<Told> {
+    let success = |counted, hashed| told(kind, 0, counted, hashed);
+    let with_counts = |hashed| Counted::COUNTS.map(|counted| success(counted, hashed));
+    match kind {
+        3 => [false, true].map(with_counts).concat(),
+        9 => with_counts(false).to_vec(),
+        1..=9 => vec![success(Counted::Nothing, false)],
+        _ => Vec::new(),
+    }
 }
 
 /// Asserts that of these bodies, with every kind that they are for and every

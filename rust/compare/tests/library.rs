@@ -2,14 +2,15 @@
 //! listings are those of the reference.
 
 use cavernlull::{AssetHash, Card, Handle, Key, Kind, Reply, Request, Right, Status};
-use cavernlull::{CallError, Error, Tally, TallyError, TurnError, Verdict};
+use cavernlull::{CallError, Error, Tally, TallyError, TurnError, Verdict, WriteError};
 use compare::frames::Asker;
 use compare::starts::{inside, start};
-use compare::tables::{before_turning, blank, damaged};
+use compare::tables::{before_turning, blank, damaged, with_unhashed};
 use compare::tallies::{tally_of, wrong};
 use random::Rng;
 use reference::{Count, Fields, ReadRequest, HANDLE_BYTES, HASH_BYTES, MAX_SLOTS, REPLY_ROOM};
 use std::collections::BTreeSet;
+use std::mem;
 
 /// The requests made on each of the tables, which have 1 to 15 slots.
 const REQUESTS: usize = 200;
@@ -149,6 +150,25 @@ struct Pair {
 }
 
 impl Pair {
+    /// Both, with this table and its tally.
+    fn on(table: Vec<u8>) -> Pair {
+        Pair {
+            card: Card::from(table.clone()),
+            tally: tally_of(&table).into(),
+            table,
+            told: BTreeSet::new(),
+        }
+    }
+
+    /// Has both go on with this table and its tally.
+    fn go_on(&mut self, table: Vec<u8>) {
+        let told = mem::take(&mut self.told);
+        *self = Pair {
+            told,
+            ..Pair::on(table)
+        };
+    }
+
     /// Has both answer the same request from the same start, and gives kind and
     /// status; `None` where the start is not the number of a slot.
     fn ask(
@@ -189,13 +209,11 @@ fn typed_requests_have_the_replies_that_the_reference_gives() {
     let (mut seen, mut counts) = (BTreeSet::new(), BTreeSet::new());
     for slots in 1..=MAX_SLOTS {
         let asker = Asker::new(slots);
-        let mut pair = Pair {
-            card: Card::blank(slots),
-            table: blank(slots),
-            tally: tally_of(&blank(slots)).into(),
-            told: BTreeSet::new(),
-        };
-        for _ in 0..REQUESTS {
+        let mut pair = Pair::on(blank(slots));
+        for call in 0..REQUESTS {
+            if call == REQUESTS * 2 / 3 {
+                pair.go_on(with_unhashed(&mut rng, &asker, slots));
+            }
             let frame = asker.frame(&mut rng);
             let verdict = match rng.below(20) {
                 0 => Verdict::Failed,
@@ -214,6 +232,29 @@ fn typed_requests_have_the_replies_that_the_reference_gives() {
     );
     assert_eq!(seen.len(), CAN_OCCUR, "{seen:?}");
     assert_eq!(counts.len(), 2 * 3, "{counts:?}");
+}
+
+/// A right without a hash that a card gives is read as it is, and cannot be
+/// installed.
+#[test]
+fn rights_without_a_hash_are_retrieved_and_not_installed() {
+    let mut rng = Rng::announced("typed rights without a hash");
+    let asker = Asker::new(MAX_SLOTS);
+    let (new_handle, mut given) = (Handle([0xEE; HANDLE_BYTES]), 0);
+    for slot in reference::table::slots(&with_unhashed(&mut rng, &asker, MAX_SLOTS)) {
+        let handle = Handle(reference::slot::handle(slot));
+        let retrieval = Request::RightsRetrieval { handle, new_handle };
+        let mut card = Card::from(slot.to_vec());
+        let Ok(Reply::Right(right)) = card.call(&retrieval, Verdict::Held) else {
+            continue;
+        };
+        given += usize::from(right.hashes.is_empty());
+        let unhashed = right.hashes.is_empty();
+        let installation = Request::RightsInstallation { handle, right };
+        let refused = installation.to_frame() == Err(WriteError::Fields);
+        assert_eq!(refused, unhashed);
+    }
+    assert!(given > 0, "no right without a hash was retrieved");
 }
 
 /// Tables that requests filled, without the bits of their counts, some of them

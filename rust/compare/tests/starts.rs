@@ -130,11 +130,13 @@ fn case_19_a_start_outside_the_card_is_105() {
 /// A request of each kind, frames that are refused whatever the table, and what
 /// is no frame.
 fn frames() -> Vec<Vec<u8>> {
-    let lengths = [30, 20, 20, 12, 10, 10, 3, 10];
-    let kinds = (2..=9).zip(lengths);
+    let lengths = [20, 20, 12, 10, 10, 3, 10];
+    let kinds = (3..=9).zip(lengths);
     let mut frames: Vec<Vec<u8>> = kinds
         .map(|(kind, length)| frame(kind, 0x80, &vec![0; length]))
         .collect();
+    let installation = |hash_byte| [&[0; 28][..], &[hash_byte], &[0; 21]].concat();
+    frames.extend([0x10, 0].map(|hash_byte| frame(2, 0x80, &installation(hash_byte))));
     frames.extend([0, 10, 31].map(|kind| frame(kind, 0x80, &[])));
     frames.extend([frame(1, 0, &[1; 12]), frame(1, 0x80, &[1; 11])]);
     frames.extend([0, 3, 15].map(|length| setup()[..length].to_vec()));

@@ -22,9 +22,10 @@ fn setup() -> Vec<u8> {
     frame(1, 0x80, &[&H1[..], &[0, 5]].concat())
 }
 
-/// The request of case 7: a right of 5 payload bytes, without a count.
+/// The request of case 7: a right of one hash and 5 payload bytes, without a
+/// count.
 fn installation() -> Vec<u8> {
-    let body = [&H1[..], &[7; 16], &[0, 0, 0], &[0xA1; 5]].concat();
+    let body = [&H1[..], &[7; 16], &[0, 0, 0x10], &[0xA0; 20], &[0xA1; 5]].concat();
     frame(2, 0x80, &body)
 }
 
@@ -121,11 +122,12 @@ fn tables() -> Vec<(Vec<u8>, Tally)> {
 /// A request of each kind, frames that are refused whatever the table, and what
 /// is no frame.
 fn frames() -> Vec<Vec<u8>> {
-    let lengths = [12, 30, 20, 20, 12, 10, 10, 3, 10];
-    let kinds = (1..=9).zip(lengths);
+    let lengths = [12, 20, 20, 12, 10, 10, 3, 10];
+    let kinds = [1, 3, 4, 5, 6, 7, 8, 9].into_iter().zip(lengths);
     let mut frames: Vec<Vec<u8>> = kinds
         .map(|(kind, length)| frame(kind, 0x80, &vec![0; length]))
         .collect();
+    frames.push(installation());
     frames.extend([frame(10, 0x80, &[]), frame(1, 0, &[1; 12])]);
     frames.extend([0, 3, 15].map(|length| setup()[..length].to_vec()));
     frames

@@ -380,7 +380,7 @@ fn expected_of_kind_2(verdict: bool, hash_byte: u8, length: usize) -> Option<Sta
         Some(Status::ParameterFailed)
     } else if !verdict {
         Some(Status::FieldIntegrityVerificationFailed)
-    } else if (1..=8).contains(&hashes) && hash_byte % 16 == 0 && payload >= 1 {
+    } else if (1..=8).contains(&hashes) && hash_byte & 15 == 0 && payload >= 1 {
         None
     } else {
         Some(Status::ParameterFailed)
