@@ -234,27 +234,27 @@ fn typed_requests_have_the_replies_that_the_reference_gives() {
     assert_eq!(counts.len(), 2 * 3, "{counts:?}");
 }
 
-/// A right without a hash that a card gives is read as it is, and cannot be
-/// installed.
+/// A right without a hash that a card gives is read as it is, and is written into
+/// no installation.
 #[test]
 fn rights_without_a_hash_are_retrieved_and_not_installed() {
     let mut rng = Rng::announced("typed rights without a hash");
     let asker = Asker::new(MAX_SLOTS);
-    let (new_handle, mut given) = (Handle([0xEE; HANDLE_BYTES]), 0);
+    let new_handle = Handle([0xEE; HANDLE_BYTES]);
+    let mut written = BTreeSet::new();
     for slot in reference::table::slots(&with_unhashed(&mut rng, &asker, MAX_SLOTS)) {
         let handle = Handle(reference::slot::handle(slot));
         let retrieval = Request::RightsRetrieval { handle, new_handle };
         let mut card = Card::from(slot.to_vec());
-        let Ok(Reply::Right(right)) = card.call(&retrieval, Verdict::Held) else {
-            continue;
-        };
-        given += usize::from(right.hashes.is_empty());
-        let unhashed = right.hashes.is_empty();
-        let installation = Request::RightsInstallation { handle, right };
-        let refused = installation.to_frame() == Err(WriteError::Fields);
-        assert_eq!(refused, unhashed);
+        if let Ok(Reply::Right(right)) = card.call(&retrieval, Verdict::Held) {
+            assert_eq!(right.hashes.len(), reference::slot::hash_count(slot));
+            let hashed = !right.hashes.is_empty();
+            let frame = Request::RightsInstallation { handle, right }.to_frame();
+            let number = frame.err().map_or(0, WriteError::number);
+            written.insert((hashed, number));
+        }
     }
-    assert!(given > 0, "no right without a hash was retrieved");
+    assert_eq!(written, BTreeSet::from([(false, 202), (true, 0)]));
 }
 
 /// Tables that requests filled, without the bits of their counts, some of them
