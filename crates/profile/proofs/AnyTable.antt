@@ -11,30 +11,15 @@ use Rattle.profile.specs.Sizes.{slotSize}
 use Rattle.profile.specs.Slot.{Entry, reserved, enabled, disabled, Slot, empty, taken, distinct}
 use Rattle.profile.specs.Table.{slotCount, slotsOf, wholeSlots, wellTable}
 use Rattle.profile.specs.Agent.{Call, agent}
-use Rattle.profile.specs.History.{Opened, open-setup, Owned, forUse, lent, Ledger}
-use Rattle.profile.specs.Run.{underSlot, underSetup, underRight, underSlots, underLedger, Agrees}
+use Rattle.profile.specs.History.{Ledger}
+use Rattle.profile.specs.Run.{ledgerOf, underSlot, underSetup, underRight, underSlots, underLedger, Agrees}
 use Rattle.profile.proofs.Logic.{and-parts, from-1-to-says}
 use Rattle.profile.proofs.Lookup.{under-once}
 use Rattle.profile.proofs.Tables.{table-slots}
 use Rattle.profile.proofs.WellFormed.{table-fits, table-distinct, count-slots, few-slots}
 use Rattle.profile.proofs.Sound.{Sound, sound-call, sound-well}
 
--- ---- a ledger for slots whose history is not known: each reservation an open setup, each record a right
-abbrev setupIn : Slot → List Opened
-setupIn empty = []
-setupIn (taken h (reserved n)) = open-setup h n ∷ []
-setupIn (taken h (enabled r)) = []
-setupIn (taken h (disabled r)) = []
-
-abbrev rightIn : Slot → List Owned
-rightIn empty = []
-rightIn (taken h (reserved n)) = []
-rightIn (taken h (enabled r)) = forUse h r ∷ []
-rightIn (taken h (disabled r)) = lent h r ∷ []
-
-abbrev pub ledgerOf : List Slot → Ledger
-ledgerOf t = record { setups = joined (map setupIn t); rights = joined (map rightIn t) }
-
+-- ---- the ledger read off the slots of a table agrees with them
 -- a right before the setups that follow it: none of them has its handle
 past-setups : (a b c : List Entry) → length (a ++ (b ++ c)) ≤ 1 → a ++ (b ++ c) ≡ b ++ (a ++ c)
 past-setups [] b c o = refl

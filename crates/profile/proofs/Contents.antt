@@ -1,15 +1,18 @@
--- PROFILE 8.3: right number i holds what installation number i sent, and the count last given to it. It holds of every history, whatever the agent does.
-use Prim.Native.Nat.{ℕ, zero, suc}
-use mathlib.Core.Path.{_≡_, refl, sym, ap, _∙_}
+-- PROFILE 8.3: each right holds what it held at first or what its installation sent, and the count last given to it. It holds of every history, whatever
+-- the agent does.
+use Prim.Native.Nat.{ℕ, zero, suc, _+_}
+use mathlib.Core.Path.{_≡_, refl, sym, ap, ap₂, _∙_}
 use mathlib.Core.List.{List, [], _∷_, _++_, map, append-nil}
 use mathlib.Core.Option.{some, Option·some-injective}
 use mathlib.Core.Bool.{Bool, true, false, _&&_}
+use native.Mathlib.Omega.{arith}
+use native.Mathlib.Nat.{zero-add}
 use lib.Dec.{eqb}
-use lib.ListN.{length, getElem?, length-map}
+use lib.ListN.{length, getElem?, length-map, length-append}
 use Rattle.profile.specs.Bytes.{Bytes, if_then_else_, same}
 use Rattle.profile.specs.Slot.{Count, Right, recount}
 use Rattle.profile.specs.Request.{Request, setup, install, retrieve, rek, enable, remove, cancel, list, info}
-use Rattle.profile.specs.History.{Owned, forUse, lent, gone, Ledger, blankLedger, lend, giveBack, end, tell, Exchange, history}
+use Rattle.profile.specs.History.{Owned, forUse, lent, gone, Ledger, lend, giveBack, end, tell, Exchange, history}
 use Rattle.profile.specs.Contents.{Installed, installed, installations, follow, lastCount, held, Holds, Contents}
 use Rattle.profile.proofs.Logic.{if-both}
 use Rattle.profile.proofs.Mirror.{not-none}
@@ -167,20 +170,46 @@ kept-all (x ∷ xs) = go (kept-all xs)
           over = λ r. rw (turn-gone (x .request) r) (if-both (λ (o : Owned). Kept r (held o) (r .count)) (eqb (x .status) 0) (k .over r) (k .over r));
         }
 
--- ---- from no ledger on
-nth-map : (ps : List Installed) (i : ℕ) (o : Owned) (p : Installed) → getElem? (map since ps) i ≡ some o → getElem? ps i ≡ some p → o ≡ since p
-nth-map [] i o p e f = absurd (not-none e)
-nth-map (x ∷ ps) zero o p e f = sym (Option·some-injective (since x) o e) ∙ ap since (Option·some-injective x p f)
-nth-map (x ∷ ps) (suc i) o p e f = nth-map ps i o p e f
+-- ---- the right of a number
+nth-since : (ps : List Installed) (i : ℕ) (o : Owned) (p : Installed) → getElem? (map since ps) i ≡ some o → getElem? ps i ≡ some p → o ≡ since p
+nth-since [] i o p e f = absurd (not-none e)
+nth-since (x ∷ ps) zero o p e f = sym (Option·some-injective (since x) o e) ∙ ap since (Option·some-injective x p f)
+nth-since (x ∷ ps) (suc i) o p e f = nth-since ps i o p e f
 
-pub contents : (xs : List Exchange) → Contents xs (history blankLedger xs)
-contents xs =
+nth-first : (g : Owned → Owned) (rs ys : List Owned) (i : ℕ) (u o : Owned) → getElem? rs i ≡ some u → getElem? (map g rs ++ ys) i ≡ some o → o ≡ g u
+nth-first g [] ys i u o e f = absurd (not-none e)
+nth-first g (x ∷ rs) ys zero u o e f = sym (Option·some-injective (g x) o f) ∙ ap g (Option·some-injective x u e)
+nth-first g (x ∷ rs) ys (suc i) u o e f = nth-first g rs ys i u o e f
+
+nth-later : (g : Owned → Owned) (rs ys : List Owned) (i : ℕ) → getElem? (map g rs ++ ys) (length rs + i) ≡ getElem? ys i
+nth-later g [] ys i = rw (zero-add i)
+nth-later g (x ∷ rs) ys i =
+    let e : length (x ∷ rs) + i ≡ suc (length rs + i) = omega arith in
+    rw e (nth-later g rs ys i)
+
+-- what a right holds after some exchanges, whatever it was before them
+holds-after : (u : Owned) (xs : List Exchange) → Holds u xs (held (onward u xs))
+holds-after (forUse h r) xs =
+    let k = kept-all xs .used h r in
+    record { key = k .key; hashes = k .hashes; payload = k .payload; count = k .count }
+holds-after (lent h r) xs =
+    let k = kept-all xs .out h r in
+    record { key = k .key; hashes = k .hashes; payload = k .payload; count = k .count }
+holds-after (gone r) xs =
+    let k = kept-all xs .over r in
+    record { key = k .key; hashes = k .hashes; payload = k .payload; count = k .count }
+
+pub contents : (l : Ledger) (xs : List Exchange) → Contents l xs (history l xs)
+contents l xs =
     record {
-      as-many = ap (λ (rs : List Owned). length rs) (rights-then blankLedger xs) ∙ length-map (installations xs) since;
-      each = λ i o p e f. holds p o (nth-map (installations xs) i o p (rw (rights-then blankLedger xs) at e) f);
+      as-many =
+          ap (λ (rs : List Owned). length rs) (rights-then l xs)
+          ∙ length-append (map (λ (o : Owned). onward o xs) (l .rights)) (map since (installations xs))
+          ∙ ap₂ (λ (m n : ℕ). m + n) (length-map (l .rights) (λ (o : Owned). onward o xs)) (length-map (installations xs) since);
+      stood = λ i u o e f.
+          rw (nth-first (λ (o : Owned). onward o xs) (l .rights) (map since (installations xs)) i u o e (rw (rights-then l xs) at f))
+          (holds-after u xs);
+      came = λ i o p e f.
+          rw (nth-since (installations xs) i o p (sym (nth-later (λ (o : Owned). onward o xs) (l .rights) (map since (installations xs)) i) ∙ (rw (rights-then l xs) at e)) f)
+          (holds-after (forUse (p .handle) (p .right)) (p .later));
     }
-  where
-    holds : (p : Installed) (o : Owned) → o ≡ since p → Holds p (held o)
-    holds p o e =
-        let k = kept-all (p .later) .used (p .handle) (p .right) in
-        rw e (record { key = k .key; hashes = k .hashes; payload = k .payload; count = k .count })

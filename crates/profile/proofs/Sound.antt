@@ -76,7 +76,7 @@ zeros-table (suc n) =
     let e : 4288 * suc n ≡ 4288 + 4288 * n = omega arith in
     ap zeros e ∙ sym (replicate-append-replicate 4288 (4288 * n) 0) ∙ ap (λ (r : Bytes). zeros 4288 ++ r) (zeros-table n)
 
-sound-blank : (n : ℕ) → 1 ≤ n → n ≤ 15 → Sound blankLedger (blankTable n)
+pub sound-blank : (n : ℕ) → 1 ≤ n → n ≤ 15 → Sound blankLedger (blankTable n)
 sound-blank n p q =
     record {
       slots = replicate n empty;

@@ -17,7 +17,7 @@ use Rattle.profile.specs.Frame.{frame, kindNumber, statusIn}
 use Rattle.profile.specs.Request.{Request, setup, install, retrieve, rek, enable, remove, cancel, list, info, Read, asks, refused, noFrame, readRequest}
 use Rattle.profile.specs.Agent.{Answer, deny, done, listed, fitting, act, firstEmptyFrom, replyFrame, Call, Outcome, refuse, replied, Obeyed, stopped, answered, obey, onBytes, agent}
 use Rattle.profile.specs.History.{Ledger, blankLedger, Exchange, history}
-use Rattle.profile.specs.Run.{exchange, exchangeOf, blankTable, ledgerThen}
+use Rattle.profile.specs.Run.{ledgerOf, exchange, exchangeOf, blankTable, ledgerThen}
 use Rattle.profile.specs.Starts.{AlikeButPlaces, OtherStart, OtherStarts, SameList, SameCall, SameRun}
 use Rattle.profile.proofs.Logic.{leb-ltb, leb-false, leb-over, ltb-over}
 use Rattle.profile.proofs.Strings.{length-zeros}
@@ -30,7 +30,7 @@ use Rattle.profile.proofs.WellFormed.{table-distinct, count-slots}
 use Rattle.profile.proofs.Laws.{refuses}
 use Rattle.profile.proofs.Tallies.{tally-afresh}
 use Rattle.profile.proofs.Sound.{Sound, sound-call, sound-count, sound-then, sound-well, sound-agrees}
-use Rattle.profile.proofs.AnyTable.{ledgerOf, table-agrees, sound-by}
+use Rattle.profile.proofs.AnyTable.{table-agrees, sound-by}
 use Rattle.profile.proofs.SameRecords.{Like, like-back, Place, first-place, Alike, both-deny, both-give, both-list, alike, same-records-tally, as-many-listed, shown-too, listed-too}
 
 -- with both starts inside, or both outside, every test says the same

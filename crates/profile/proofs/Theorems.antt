@@ -12,6 +12,8 @@ use Rattle.profile.proofs.Unpack.{pack-unpack}
 use Rattle.profile.proofs.Tables.{slots-table, table-slots, well-table, whole-table}
 use Rattle.profile.proofs.WellFormed.{table-fits, table-distinct}
 use Rattle.profile.proofs.Turning.{turns, turn-refuses, turned-once}
+use Rattle.profile.proofs.Salvage.{salvages, salvage-refuses, nothing-damaged, salvaged-twice}
+use Rattle.profile.proofs.OneSlot.{one-slot}
 use Rattle.profile.proofs.Lookup.{under-once}
 use Rattle.profile.proofs.FirstEmpty.{first-empty, first-only, none-empty, none-alike, from-0}
 use Rattle.profile.proofs.Frames.{reads}
@@ -39,7 +41,9 @@ use Rattle.profile.proofs.StartCases.{starts-hold}
 use Rattle.profile.proofs.TallyCases.{tallies-hold}
 use Rattle.profile.proofs.UnlistedCases.{unlisted-hold}
 use Rattle.profile.proofs.Unlisted.{in-use, when-lent, none-comes, all-have-one, by-course}
-use Rattle.profile.proofs.Demand3.{demand-3}
+use Rattle.profile.proofs.SalvageCases.{salvages-hold}
+use Rattle.profile.proofs.Demand3.{demand-from, blank-ledger, demand-3}
+use Rattle.profile.proofs.Restart.{after-salvage, after-turning}
 use Rattle.profile.proofs.TallyLaws.{counts-all, tally-slot}
 use Rattle.profile.proofs.Tallies.{differs-106, turn-tally, tally-afresh, tally-stays, carries-on, never-106}
 use Rattle.profile.proofs.Starts.{only-setups, same-call, same-run, same-ledger}
@@ -64,6 +68,11 @@ theorems =
       turns = turns;
       turn-refuses = turn-refuses;
       turned-once = turned-once;
+      salvages = λ table report whole room. salvages table whole report room;
+      salvage-refuses = salvage-refuses;
+      nothing-damaged = λ table report whole well room. nothing-damaged table whole well report room;
+      salvaged-twice = salvaged-twice;
+      one-slot = λ table report i s whole well room long. one-slot table i s whole long well report room;
       read-fits = λ f q e. read-fits f q (rw e at (reads f));
       read-write = read-write;
       written-reads = written-reads;
@@ -103,6 +112,7 @@ theorems =
       sizes-hold = sizes-hold;
       tables-hold = tables-hold;
       turnings-hold = turnings-hold;
+      salvages-hold = salvages-hold;
       requests-hold = requests-hold;
       acts-hold = acts-hold;
       cases-hold = cases-hold;
@@ -114,6 +124,10 @@ theorems =
       starts-hold = starts-hold;
       tallies-hold = tallies-hold;
       unlisted-hold = unlisted-hold;
+      demand-from = demand-from;
+      after-salvage = after-salvage;
+      after-turning = after-turning;
+      blank-ledger = blank-ledger;
       demand-3 = demand-3;
       only-setups = only-setups;
       same-call = same-call;

@@ -1,5 +1,5 @@
--- PROFILE 8.3: what each right holds, told from the exchanges alone, right by right: from its installation, and from the returns that gave it a count.
-use Prim.Native.Nat.{ℕ}
+-- PROFILE 8.3: what each right holds, told right by right: from what it was at first or from its installation, and from the returns that gave it a count.
+use Prim.Native.Nat.{ℕ, _+_}
 use mathlib.Core.Path.{_≡_}
 use mathlib.Core.List.{List, [], _∷_, _++_}
 use mathlib.Core.Option.{some}
@@ -65,14 +65,24 @@ held (forUse h r) = r
 held (lent h r) = r
 held (gone r) = r
 
--- PROFILE 8.3: key, hashes and payload of the installation; the count of the last return that gave one, or of the installation
-pub record Holds (p : Installed) (r : Right) : Type 0 where
-  pub key : r .key ≡ p .right .key
-  pub hashes : r .hashes ≡ p .right .hashes
-  pub payload : r .payload ≡ p .right .payload
-  pub count : r .count ≡ lastCount (p .handle) false (p .right .count) (p .later)
+-- the count of a right that was o before some exchanges; one that is gone keeps its count
+abbrev pub countAfter : Owned → List Exchange → Count
+countAfter (forUse h r) xs = lastCount h false (r .count) xs
+countAfter (lent h r) xs = lastCount h true (r .count) xs
+countAfter (gone r) xs = r .count
 
--- as many rights as installations, and right number i holds what installation number i sent
-pub record Contents (xs : List Exchange) (l : Ledger) : Type 0 where
-  pub as-many : length (l .rights) ≡ length (installations xs)
-  pub each : (i : ℕ) (o : Owned) (p : Installed) → rightNumber i l ≡ some o → getElem? (installations xs) i ≡ some p → Holds p (held o)
+-- PROFILE 8.3: of a right that was o before some exchanges, the key, hashes and payload that it had then; the count of the last return that gave one, or
+-- the one that it had
+pub record Holds (o : Owned) (xs : List Exchange) (r : Right) : Type 0 where
+  pub key : r .key ≡ held o .key
+  pub hashes : r .hashes ≡ held o .hashes
+  pub payload : r .payload ≡ held o .payload
+  pub count : r .count ≡ countAfter o xs
+
+-- from the ledger `first` on: the rights that there were and as many more as installations; each of the first holds what it held, and right number i after
+-- them what installation number i sent
+pub record Contents (first : Ledger) (xs : List Exchange) (l : Ledger) : Type 0 where
+  pub as-many : length (l .rights) ≡ length (first .rights) + length (installations xs)
+  pub stood : (i : ℕ) (u o : Owned) → rightNumber i first ≡ some u → rightNumber i l ≡ some o → Holds u xs (held o)
+  pub came : (i : ℕ) (o : Owned) (p : Installed) → rightNumber (length (first .rights) + i) l ≡ some o → getElem? (installations xs) i ≡ some p
+      → Holds (forUse (p .handle) (p .right)) (p .later) (held o)

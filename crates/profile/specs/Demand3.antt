@@ -1,4 +1,4 @@
--- PROFILE 8.3, whole: what holds after every sequence of calls on an all-zero table.
+-- PROFILE 8.3, whole: what holds after every sequence of calls on a well-formed table, an all-zero one or any other.
 use Prim.Native.Nat.{ℕ, _*_}
 use mathlib.Core.Path.{_≡_}
 use mathlib.Core.Logic.{_↔_}
@@ -13,8 +13,8 @@ use Rattle.profile.specs.Table.{slotBytes, slotsOf, wholeSlots, wellTabl
 use Rattle.profile.specs.Frame.{frame, writeRight}
 use Rattle.profile.specs.Request.{Request, setup, install, retrieve, rek, enable, remove, cancel, list, info}
 use Rattle.profile.specs.Agent.{Call, agent}
-use Rattle.profile.specs.History.{open-setup, Owned, forUse, lent, Ledger, rightNumber, Exchange}
-use Rattle.profile.specs.Run.{exchangeOf, exchanges, blankTable, tableAfterAll, ledgerThen, underSlots, Agrees}
+use Rattle.profile.specs.History.{open-setup, Owned, forUse, lent, Ledger, blankLedger, rightNumber, Exchange}
+use Rattle.profile.specs.Run.{exchangeOf, exchanges, tableThen, blankTable, ledgerOf, ledgerOn, underSlots, Agrees}
 use Rattle.profile.specs.Contents.{Contents}
 
 -- ---- rights and records, one to one
@@ -106,31 +106,38 @@ pub record AlikeButKeys (table other : Bytes) : Type 0 where
   pub other-well : wellTable other ≡ true
   pub alike : ButKeys (slotBytes table) (slotBytes other)
 
--- ---- PROFILE 8.3, after the calls cs on an all-zero table of n slots
-pub record Demand3 (n : ℕ) (cs : List Call) : Type 0 where
+-- ---- PROFILE 8.3, after the calls cs on a table of which the ledger l told before them
+pub record Demand3On (l : Ledger) (table : Bytes) (cs : List Call) : Type 0 where
   -- the table is whole and well formed
-  pub whole : wholeSlots (tableAfterAll n cs) ≡ true
-  pub well : wellTable (tableAfterAll n cs) ≡ true
+  pub whole : wholeSlots (tableThen table cs) ≡ true
+  pub well : wellTable (tableThen table cs) ≡ true
   -- slots and ledger agree: handle by handle, right by right, record by record
-  pub agrees : Agrees (ledgerThen n cs) (slotsOf (tableAfterAll n cs))
-  pub mirrors : Mirrors (ledgerThen n cs) (slotsOf (tableAfterAll n cs))
-  pub records : Records (ledgerThen n cs) (slotsOf (tableAfterAll n cs))
-  -- right number i has the key, hashes and payload of installation number i, and the count last given to it
-  pub contents : Contents (exchanges (blankTable n) cs) (ledgerThen n cs)
+  pub agrees : Agrees (ledgerOn l table cs) (slotsOf (tableThen table cs))
+  pub mirrors : Mirrors (ledgerOn l table cs) (slotsOf (tableThen table cs))
+  pub records : Records (ledgerOn l table cs) (slotsOf (tableThen table cs))
+  -- each right has the key, hashes and payload that it had in the ledger before the calls or that its installation sent, and the count last given to it
+  pub contents : Contents l (exchanges table cs) (ledgerOn l table cs)
   -- a key goes out only for a right that is for use at that moment, and what goes out is of this right
-  pub key-out : (c : Call) (h k : Bytes) (o : KeyOut (tableAfterAll n cs) c h k)
-      → LentOut (ledgerThen n cs) (ledgerThen n (cs ++ (c ∷ []))) (o .asked) h k (c .buffer) (agent (tableAfterAll n cs) c .reply)
+  pub key-out : (c : Call) (h k : Bytes) (o : KeyOut (tableThen table cs) c h k)
+      → LentOut (ledgerOn l table cs) (ledgerOn l table (cs ++ (c ∷ []))) (o .asked) h k (c .buffer) (agent (tableThen table cs) c .reply)
   -- if the right of number i is for use under h when its key goes out, and for use again after further calls,
   -- then among these a return under the handle k, set when the key went out, has succeeded
-  pub between : (c : Call) (h k : Bytes) → KeyOut (tableAfterAll n cs) c h k → (more : List Call) (i : ℕ) (h′ : Bytes) (r r′ : Right)
-      → rightNumber i (ledgerThen n cs) ≡ some (forUse h r)
-      → rightNumber i (ledgerThen n (cs ++ (c ∷ more))) ≡ some (forUse h′ r′)
-      → returned k (exchanges (tableAfterAll n (cs ++ (c ∷ []))) more) ≡ true
+  pub between : (c : Call) (h k : Bytes) → KeyOut (tableThen table cs) c h k → (more : List Call) (i : ℕ) (h′ : Bytes) (r r′ : Right)
+      → rightNumber i (ledgerOn l table cs) ≡ some (forUse h r)
+      → rightNumber i (ledgerOn l table (cs ++ (c ∷ more))) ≡ some (forUse h′ r′)
+      → returned k (exchanges (tableThen table (cs ++ (c ∷ []))) more) ≡ true
   -- of two replies with the key of one right, the first of which set the handle k: between them a return under k has succeeded
   pub two-keys : (i : ℕ) (first second : Call) (more : List Call) (h k h′ k′ : Bytes)
-      → KeyOf i (ledgerThen n cs) (tableAfterAll n cs) first h k
-      → KeyOf i (ledgerThen n (cs ++ (first ∷ more))) (tableAfterAll n (cs ++ (first ∷ more))) second h′ k′
-      → (c : Count) × In (record { request = enable k c; status = 0 }) (exchanges (tableAfterAll n (cs ++ (first ∷ []))) more)
+      → KeyOf i (ledgerOn l table cs) (tableThen table cs) first h k
+      → KeyOf i (ledgerOn l table (cs ++ (first ∷ more))) (tableThen table (cs ++ (first ∷ more))) second h′ k′
+      → (c : Count) × In (record { request = enable k c; status = 0 }) (exchanges (tableThen table (cs ++ (first ∷ []))) more)
   -- no reply depends on any key but that of a successful kind 3 or 4: neither one to another kind, nor a refusal
-  pub keys-unseen : (other : Bytes) → AlikeButKeys (tableAfterAll n cs) other → (c : Call) → ((h k : Bytes) → KeyOut (tableAfterAll n cs) c h k → ⊥)
-      → (agent (tableAfterAll n cs) c .number ≡ agent other c .number) × (agent (tableAfterAll n cs) c .reply ≡ agent other c .reply)
+  pub keys-unseen : (other : Bytes) → AlikeButKeys (tableThen table cs) other → (c : Call) → ((h k : Bytes) → KeyOut (tableThen table cs) c h k → ⊥)
+      → (agent (tableThen table cs) c .number ≡ agent other c .number) × (agent (tableThen table cs) c .reply ≡ agent other c .reply)
+
+-- from any table, with the ledger read off it; and from an all-zero table of n slots, with an empty one
+abbrev pub Demand3From : Bytes → List Call → Type 0
+Demand3From table cs = Demand3On (ledgerOf (slotsOf table)) table cs
+
+abbrev pub Demand3 : ℕ → List Call → Type 0
+Demand3 n cs = Demand3On blankLedger (blankTable n) cs

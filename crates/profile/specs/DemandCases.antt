@@ -13,7 +13,7 @@ use Rattle.profile.specs.History.{Owned, forUse, lent, gone, Ledger, bla
 use Rattle.profile.specs.CaseBytes.{hex, changed, H1, H2, H3, H4, K, L, A, B, five}
 use Rattle.profile.specs.CaseTables.{blank, after7, after9, counted7, hashed2, waiting}
 use Rattle.profile.specs.HistoryCases.{plain, other, asking}
-use Rattle.profile.specs.Contents.{installations, lastCount, held, Contents}
+use Rattle.profile.specs.Contents.{installations, lastCount, held, countAfter, Contents}
 use Rattle.profile.specs.Demand3.{Records, KeyOut, returned, AlikeButKeys}
 
 -- a call with a tally and a frame
@@ -25,8 +25,8 @@ abbrev pub rekeyed : Bytes → Bytes → Bytes
 rekeyed key s = take 11 s ++ key ++ drop 27 s
 
 -- a ledger with these rights and no setup
-abbrev pub ledgerOf : List Owned → Ledger
-ledgerOf rights = record { setups = []; rights = rights }
+abbrev pub ledgerWith : List Owned → Ledger
+ledgerWith rights = record { setups = []; rights = rights }
 
 -- ---- exchanges: two rights with equal bytes; the first is lent, comes back with a kept count of 3, is lent again and comes back with 2; the second is removed;
 -- among them requests that are refused, and a return that is sent again
@@ -49,19 +49,25 @@ exchanged = asking (install H1 plain) 0 ∷ asking (rek H1 H2) 0 ∷ later
 -- ---- these are what the definitions say
 pub record Hold : Type 0 where
   -- records agree: not one that is missing, that no right or setup has, that is of another place, or that stands twice
-  pub missing : ¬ Records (ledgerOf (forUse H1 plain ∷ [])) (empty ∷ [])
+  pub missing : ¬ Records (ledgerWith (forUse H1 plain ∷ [])) (empty ∷ [])
   pub untold : ¬ Records blankLedger (taken H1 (enabled plain) ∷ [])
   pub not-set-up : ¬ Records blankLedger (taken H1 (reserved 5) ∷ [])
-  pub not-lent : ¬ Records (ledgerOf (lent H1 plain ∷ [])) (taken H1 (enabled plain) ∷ [])
-  pub twice : ¬ Records (ledgerOf (forUse H1 plain ∷ [])) (taken H1 (enabled plain) ∷ taken H1 (enabled plain) ∷ [])
+  pub not-lent : ¬ Records (ledgerWith (lent H1 plain ∷ [])) (taken H1 (enabled plain) ∷ [])
+  pub twice : ¬ Records (ledgerWith (forUse H1 plain ∷ [])) (taken H1 (enabled plain) ∷ taken H1 (enabled plain) ∷ [])
   -- rights hold what was sent: not where there is none, where none was installed, or with another key, hash, payload or count
-  pub lost : ¬ Contents (asking (install H1 plain) 0 ∷ []) blankLedger
-  pub refused : ¬ Contents (asking (install H1 plain) 7 ∷ []) (ledgerOf (forUse H1 plain ∷ []))
-  pub other-key : ¬ Contents (asking (install H1 plain) 0 ∷ []) (ledgerOf (forUse H1 (rightWith L (Kept 7) (A ∷ []) five) ∷ []))
-  pub other-hash : ¬ Contents (asking (install H1 plain) 0 ∷ []) (ledgerOf (forUse H1 (rightWith K (Kept 7) (B ∷ []) five) ∷ []))
-  pub other-payload : ¬ Contents (asking (install H1 plain) 0 ∷ []) (ledgerOf (lent H1 (rightWith K (Kept 7) (A ∷ []) (hex "BC")) ∷ []))
-  pub other-count : ¬ Contents (asking (install H1 plain) 0 ∷ []) (ledgerOf (gone (rightWith K (Kept 8) (A ∷ []) five) ∷ []))
-  pub other-bit : ¬ Contents (asking (install H1 (rightWith K (Kept 0) (A ∷ []) five)) 0 ∷ []) (ledgerOf (forUse H1 (rightWith K NoneKept (A ∷ []) five) ∷ []))
+  pub lost : ¬ Contents blankLedger (asking (install H1 plain) 0 ∷ []) blankLedger
+  pub refused : ¬ Contents blankLedger (asking (install H1 plain) 7 ∷ []) (ledgerWith (forUse H1 plain ∷ []))
+  pub other-key : ¬ Contents blankLedger (asking (install H1 plain) 0 ∷ []) (ledgerWith (forUse H1 (rightWith L (Kept 7) (A ∷ []) five) ∷ []))
+  pub other-hash : ¬ Contents blankLedger (asking (install H1 plain) 0 ∷ []) (ledgerWith (forUse H1 (rightWith K (Kept 7) (B ∷ []) five) ∷ []))
+  pub other-payload : ¬ Contents blankLedger (asking (install H1 plain) 0 ∷ []) (ledgerWith (lent H1 (rightWith K (Kept 7) (A ∷ []) (hex "BC")) ∷ []))
+  pub other-count : ¬ Contents blankLedger (asking (install H1 plain) 0 ∷ []) (ledgerWith (gone (rightWith K (Kept 8) (A ∷ []) five) ∷ []))
+  pub other-bit : ¬ Contents blankLedger (asking (install H1 (rightWith K (Kept 0) (A ∷ []) five)) 0 ∷ []) (ledgerWith (forUse H1 (rightWith K NoneKept (A ∷ []) five) ∷ []))
+  -- a right that was there at first holds what it held, and comes before those installed: not with another key or count, nor in place of an installed one
+  pub another : ¬ Contents (ledgerWith (forUse H1 plain ∷ [])) [] (ledgerWith (forUse H1 (rightWith L (Kept 7) (A ∷ []) five) ∷ []))
+  pub not-returned : ¬ Contents (ledgerWith (lent H2 plain ∷ [])) (asking (enable H2 (Kept 3)) 0 ∷ []) (ledgerWith (forUse H2 plain ∷ []))
+  pub out-of-order : ¬ Contents (ledgerWith (forUse H1 plain ∷ [])) (asking (install H3 other) 0 ∷ []) (ledgerWith (forUse H3 other ∷ forUse H1 plain ∷ []))
+  pub one-too-many : ¬ Contents (ledgerWith (gone plain ∷ [])) [] (ledgerWith (gone plain ∷ gone plain ∷ []))
+  pub counts-then : map (λ o. countAfter o later) (forUse H1 plain ∷ lent H3 plain ∷ gone plain ∷ []) ≡ Kept 7 ∷ Kept 2 ∷ Kept 7 ∷ []
   -- kinds 4 and 3 send a key
   pub by-rek : KeyOut after7 (calling (tallyWith 0 0 1 0 5) (hex "24 80 00 14" ++ H1 ++ H2)) H1 H2
   pub by-retrieval : KeyOut hashed2 (calling (tallyWith 0 0 1 0 1) (hex "23 80 00 14" ++ H3 ++ H4)) H3 H4

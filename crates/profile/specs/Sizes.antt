@@ -74,6 +74,10 @@ tallyDiffers = 106
 abbrev pub notAFrame : ℕ
 notAFrame = 104
 
+-- ---- the salvage's own number
+abbrev pub reportBufferShort : ℕ
+reportBufferShort = 107
+
 -- ---- numbers of the device's end: the request writer's two, and the reply reader's
 abbrev pub writerBufferShort : ℕ
 writerBufferShort = 201

@@ -8,12 +8,13 @@ use mathlib.Core.Option.{some}
 use mathlib.Core.Bool.{true, false}
 use lib.Dec.{T, eqb, ltb}
 use lib.ListN.{length, drop, set, getElem?}
-use Rattle.profile.specs.Bytes.{Bytes, Bytes256, In, over, all, any}
+use Rattle.profile.specs.Bytes.{Bytes, Bytes256, zeros, In, over, all, any, joined}
 use Rattle.profile.specs.Sizes.{slotSize, replyRoom}
 use Rattle.profile.specs.Slot.{Right, reserved, enabled, disabled, Slot, taken, distinct, SlotFits, TableFits}
 use Rattle.profile.specs.Table.{unpack, pack, wellSlot, slotBytes, slotCount, slotsOf, tableOf, wholeSlots, wellTable}
 use Rattle.profile.specs.Turning.{unpackBefore, keepsCount, Turned, turn}
 use Rattle.profile.specs.Tally.{tallyWith, inSlot, plus, tallyOf, tallyIn}
+use Rattle.profile.specs.Salvage.{Salvaged, salvage}
 use Rattle.profile.specs.Frame.{Kind, kindOf, isStatus, kindNumber, statusIn}
 use Rattle.profile.specs.Request.{Request, setup, list, asks, readRequest, writeRequest, withVerdict, RequestFits}
 use Rattle.profile.specs.Agent.{Given, Answer, done, find, act, lowestEmpty, firstEmptyFrom, replyFrame, Call, Outcome, refuse, replied, agent}
@@ -22,6 +23,7 @@ use Rattle.profile.specs.BytesCases
 use Rattle.profile.specs.SizeCases
 use Rattle.profile.specs.TableCases
 use Rattle.profile.specs.TurningCases
+use Rattle.profile.specs.SalvageCases
 use Rattle.profile.specs.RequestCases
 use Rattle.profile.specs.ActCases
 use Rattle.profile.specs.Cases.{cases, holds}
@@ -33,11 +35,13 @@ use Rattle.profile.specs.DemandCases
 use Rattle.profile.specs.StartCases
 use Rattle.profile.specs.TallyCases
 use Rattle.profile.specs.UnlistedCases
-use Rattle.profile.specs.Demand3.{Demand3}
+use Rattle.profile.specs.Demand3.{Demand3From, Demand3}
 use Rattle.profile.specs.Starts.{AlikeButPlaces, OtherStart, OtherStarts, SameCall, SameRun}
 use Rattle.profile.specs.Tallies.{CountsAll, Carries}
 use Rattle.profile.specs.Unlisted.{OpenToUse, OpenToReturn, HoldsRight, HoldsRightBut, FoundByCourse}
-use Rattle.profile.specs.Run.{numbersThen, blankTable, tableAfterAll, ledgerThen}
+use Rattle.profile.specs.Salvages.{Salvages}
+use Rattle.profile.specs.History.{blankLedger}
+use Rattle.profile.specs.Run.{numbersThen, blankTable, tableAfterAll, ledgerOf, ledgerThen}
 use Rattle.profile.specs.Laws.{Apart, Refuses, AStatus, FoundIs, Full, FirstEmpty, SetsFirst, ListsExactly}
 
 -- ---- the words of the theorems below
@@ -101,6 +105,16 @@ pub record Theorems : Type 0 where
   pub turns : (table : Bytes) → eqb (turn table .number) 0 ≡ true → Turns table (turn table)
   pub turn-refuses : (table : Bytes) → eqb (turn table .number) 0 ≡ false → turn table .table ≡ table
   pub turned-once : (table : Bytes) → wholeSlots table ≡ true → any keepsCount (slotsOf table) ≡ true → turn table ≡ record { number = 103; table = table }
+  -- PROFILE 2.10: what a salvage leaves, and that it changes nothing where it refuses; a well-formed table stays as it is, and so does one that was salvaged; where
+  -- one slot of a well-formed table has come to other bytes, at most one slot is cleared
+  pub salvages : (table report : Bytes) → wholeSlots table ≡ true → slotCount table ≤ length report → Salvages table report (salvage table report)
+  pub salvage-refuses : (table report : Bytes) → 15 < salvage table report .number → (salvage table report .table ≡ table) × (salvage table report .report ≡ report)
+  pub nothing-damaged : (table report : Bytes) → wholeSlots table ≡ true → wellTable table ≡ true → slotCount table ≤ length report
+      → salvage table report ≡ record { number = 0; table = table; report = over (zeros (slotCount table)) report }
+  pub salvaged-twice : (table report again : Bytes) → wholeSlots table ≡ true → slotCount table ≤ length report → slotCount table ≤ length again
+      → salvage (salvage table report .table) again ≡ record { number = 0; table = salvage table report .table; report = over (zeros (slotCount table)) again }
+  pub one-slot : (table report : Bytes) (i : ℕ) (s : Bytes) → wholeSlots table ≡ true → wellTable table ≡ true → slotCount table ≤ length report → length s ≡ slotSize
+      → salvage (joined (set (slotBytes table) i s)) report .number ≤ 1
   -- PROFILE 6.4: a request reads back to the fields written; a frame that reads as a request is written again to the same bytes, but for its verdict
   pub read-fits : (f : Bytes) (q : Request) → readRequest f ≡ asks q → RequestFits q
   pub read-write : (q : Request) → RequestFits q → readRequest (writeRequest q) ≡ asks q
@@ -163,6 +177,7 @@ pub record Theorems : Type 0 where
   pub sizes-hold : SizeCases.Hold
   pub tables-hold : TableCases.Hold
   pub turnings-hold : TurningCases.Hold
+  pub salvages-hold : SalvageCases.Hold
   pub requests-hold : RequestCases.Hold
   pub acts-hold : ActCases.Hold
   pub cases-hold : holds cases
@@ -174,7 +189,12 @@ pub record Theorems : Type 0 where
   pub starts-hold : StartCases.Hold
   pub tallies-hold : TallyCases.Hold
   pub unlisted-hold : UnlistedCases.Hold
-  -- PROFILE 8.3, of every table of 1 to 15 slots and every sequence of calls
+  -- PROFILE 8.3, of every well-formed table and every sequence of calls, from the ledger read off the table; so after a salvage and after a turning
+  pub demand-from : (table : Bytes) → Bytes256 table → wholeSlots table ≡ true → wellTable table ≡ true → (cs : List Call) → Demand3From table cs
+  pub after-salvage : (table report : Bytes) → Bytes256 table → wholeSlots table ≡ true → slotCount table ≤ length report → (cs : List Call) → Demand3From (salvage table report .table) cs
+  pub after-turning : (table : Bytes) → Bytes256 table → eqb (turn table .number) 0 ≡ true → (cs : List Call) → Demand3From (turn table .table) cs
+  -- the ledger of an all-zero table is empty, and so of every all-zero table of 1 to 15 slots and every sequence of calls
+  pub blank-ledger : (n : ℕ) → ledgerOf (slotsOf (blankTable n)) ≡ blankLedger
   pub demand-3 : (n : ℕ) → 1 ≤ n → n ≤ 15 → (cs : List Call) → Demand3 n cs
   -- PROFILE 8.4: only a setup depends on the start at all, and of it only the slot: calls and sequences of calls that differ in their starts alone, on tables
   -- that hold the same records, are alike; so from an all-zero table the ledger is the same
