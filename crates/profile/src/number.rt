@@ -14,6 +14,9 @@ pub const TALLY_DIFFERS: u16 = 106;
 
 pub const NO_FRAME: u16 = 104;
 
+// The salvage's own (PROFILE 2.10).
+pub const REPORT_BUFFER_SHORT: u16 = 107;
+
 // The request writer's.
 pub const WRITER_BUFFER_SHORT: u16 = 201;
 
