@@ -1,7 +1,7 @@
 -- Slot i lent from the middle of a table, and back with its bytes changed. Assumes nothing.
 use Prim.Native.Nat.{ℕ, zero, suc, _+_, _*_, _≤_, _<_}
 use mathlib.Core.Path.{_≡_, sym, ap, _∙_}
-use mathlib.Core.List.{List, [], _∷_}
+use mathlib.Core.List.{List, [], _∷_, _++_}
 use mathlib.Core.Bool.{Bool, true}
 use native.Mathlib.Omega.{arith}
 use native.Mathlib.Nat.{not-suc-le-zero, le-of-suc-le-suc, mul-zero}
@@ -57,7 +57,12 @@ module _ (t : Bytes) (i : ℕ) (w : Has t i) where
   changed bytes f y k e g =
       rw (g, lent k e, e, drop-drop 4288 (4288 * i) t) (sym (replace-slot t bytes (w .whole) (w .well) i (f (slotAt t i)) (w .inside)))
 
-  -- the slot's part with every byte 0
-  pub lent-zeros : (k : ℕ) → k ≡ 4288 → zeros (length (part (4288 * i) k t)) ≡ pack empty
+  -- with zeros in its place the slot is empty
+  pub emptied : Bytes256 t → take (4288 * i) t ++ (zeros 4288 ++ drop (4288 * i + 4288) t) ≡ tableOf (set (slotsOf t) i empty)
   unfolding pack
-  lent-zeros k e = ap zeros (ap length (lent k e) ∙ slot-long)
+  emptied bytes = sym (replace-slot t bytes (w .whole) (w .well) i empty (w .inside))
+
+-- ---- slot i of any table, its part back with every byte 0
+pub wiped : (t : Bytes) (i : ℕ) → i < slotCount t → (y : Bytes) (k : ℕ) → k ≡ 4288 → y ≡ zeros (length (part (4288 * i) k t))
+    → putMid (4288 * i) k t y ≡ take (4288 * i) t ++ (zeros 4288 ++ drop (4288 * i + 4288) t)
+wiped t i h y k e g = rw (g, e, length-part (4288 * i) 4288 t (omega (arith, h)), drop-drop 4288 (4288 * i) t)

@@ -5,24 +5,34 @@ use profile::sizes::HANDLE_BYTES;
 use profile::sizes::KEY_BYTES;
 use profile::sizes::SLOT_BYTES;
 ghost use mathlib.Core.Path.{_≡_};
-ghost use Prim.Native.Nat.{_+_, _*_, _≤_};
-ghost use lib.ListN.{length, set};
-ghost use Rattle.profile.specs.Sizes.{hashSize, mostHashes, mostPayload};
+ghost use mathlib.Core.List.{_++_};
+ghost use Prim.Native.Nat.{_+_, _*_, _≤_, _<_};
+ghost use lib.ListN.{length, take, drop, set};
+ghost use Rattle.profile.specs.Bytes.{zeros};
+ghost use Rattle.profile.specs.Sizes.{slotSize, hashSize, mostHashes, mostPayload};
 ghost use Rattle.profile.specs.Slot.{recount, reserved, enabled, disabled, empty, taken};
-ghost use Rattle.profile.specs.Table.{placeOf, handleOf, rightOf, slotsOf, tableOf};
+ghost use Rattle.profile.specs.Table.{placeOf, handleOf, rightOf, slotCount, slotsOf, tableOf};
 ghost use Rattle.changes.specs.Change.{slotAt, Has, rightFrom};
 
 mod fields; // fields.rt: a slot's fields written where they stand
 mod slot; // slot.rt: a slot's bytes changed from one record's to another's
 
-// PROFILE 5.6, 5.7: every byte of the slot becomes zero, so that no key stays readable.
-pub fn clear_slot(t: &mut [u8], i: usize)
-    requires { ⌜ Has (now t) i ⌝ }
-    ensures { λ _. ⌜ now (t .exit) ≡ tableOf (set (slotsOf (now (t .entry))) i empty) ⌝ }
+// Every byte of slot i becomes zero, whatever it was, so that no key stays readable.
+pub fn wipe_slot(t: &mut [u8], i: usize)
+    requires { ⌜ i < slotCount (now t) ⌝ }
+    ensures { λ _. ⌜ now (t .exit) ≡ take (slotSize * i) (now (t .entry)) ++ (zeros slotSize ++ drop (slotSize * i + slotSize) (now (t .entry))) ⌝ }
 {
     let from = SLOT_BYTES * i;
     let to = from + SLOT_BYTES;
     zeros::clear(&mut t[from..to]);
+}
+
+// PROFILE 5.6, 5.7: of a well-formed table the slot is empty then.
+pub fn clear_slot(t: &mut [u8], i: usize)
+    requires { ⌜ Has (now t) i ⌝ }
+    ensures { λ _. ⌜ now (t .exit) ≡ tableOf (set (slotsOf (now (t .entry))) i empty) ⌝ }
+{
+    wipe_slot(t, i);
 }
 
 // PROFILE 5.1: an empty slot becomes a reservation, whose length is the room asked for.

@@ -1,55 +1,25 @@
--- `changes::clear_slot` meets its contract: the part that was lent is back as zeros. Assumes nothing.
+-- `changes::clear_slot` meets its contract: a slot of zeros is an empty one. Assumes nothing.
 use denote.Ref.{now}
 use mathlib.Core.Path.{_∙_}
-use Prim.Native.Nat.{_+_, _-_, _*_}
-use native.Mathlib.Omega.{arith}
-use Rattle.profile.specs.Slot.{empty}
 use Rattle.octets.proofs.ByteBounds.{below-256}
-use Rattle.changes.proofs.Lent.{lent-zeros, changed}
+use Rattle.changes.proofs.Lent.{emptied}
 use borrow.Author.Needs.{needs}
 use Rattle.changes.proofs.clear_slot.Statement.{statement}
 use Rattle.changes.proofs.clear_slot.Tie as tie
 
-mul-from : tie.Need-mul-from
-mul-from c = search needs
-
-add-to : tie.Need-add-to
-add-to c = search needs
-
-sub-clear : tie.Need-sub-clear
-sub-clear c = search needs
-
-part-clear-start : tie.Need-part-clear-start
-part-clear-start c = search needs
-
-part-clear-end : tie.Need-part-clear-end
-part-clear-end c = search needs
-
-clear-requires : tie.Need-clear-requires
-clear-requires c κs = search needs
+wipe-slot-requires : tie.Need-wipe-slot-requires
+wipe-slot-requires c κs = c .before .before .pre .inside
 
 same-length : tie.Need-same-length
 same-length c = search needs
 
 returns : tie.Need-returns
 returns c =
-    let back = c .before .before in
-    let known = back .before .before in
+    let wiped = c .before .before in
+    let known = wiped .before .before in
     let start = known .before in
     let t = now (start .args .t) in
-    let i = start .args .i in
-    let k = 4288 * i + 4288 - 4288 * i in
-    changed t i (start .pre) (below-256 t (known .slice-known .given)) (λ _. empty) (back .clear .last .0) k (omega arith) (back .clear .ensures ∙ lent-zeros t i (start .pre) k (omega arith))
+    wiped .wipe-slot .ensures ∙ emptied t (start .args .i) (start .pre) (below-256 t (known .slice-known .given))
 
 pub clear-slot-spec : {M : Type 1} → statement M
-clear-slot-spec =
-    tie.close
-    (tie.spec
-    mul-from
-    add-to
-    sub-clear
-    part-clear-start
-    part-clear-end
-    clear-requires
-    same-length
-    returns)
+clear-slot-spec = tie.close (tie.spec wipe-slot-requires same-length returns)
