@@ -38,7 +38,8 @@ enum {
     CAVERNLULL_LISTING_ROOM = 406 /* room for every listing */
 };
 
-/* The numbers that functions return. With every number but 0, all lent memory stays as it was. */
+/* The numbers that functions return. With every number but 0, all lent memory stays as it was. Beside these, `cavernlull_salvage`
+ * alone returns 1 to 15, for so many slots cleared. */
 enum {
     CAVERNLULL_DONE = 0,
     CAVERNLULL_REPLY_BUFFER_SHORT = 101,
@@ -47,6 +48,7 @@ enum {
     CAVERNLULL_NO_FRAME = 104,
     CAVERNLULL_START_OUTSIDE = 105,
     CAVERNLULL_TALLY_DIFFERS = 106,
+    CAVERNLULL_REPORT_BUFFER_SHORT = 107,
     CAVERNLULL_WRITER_BUFFER_SHORT = 201,
     CAVERNLULL_WRITER_FIELDS = 202,
     CAVERNLULL_NO_REPLY = 203
@@ -222,6 +224,32 @@ size_t cavernlull_list(const uint8_t *table, size_t table_length, uint8_t *out);
  * turned again, and stays as it is.
  */
 uint16_t cavernlull_turn(uint8_t *table, size_t table_length);
+
+/* What the report of a salvage says of a slot (PROFILE 2.10). */
+enum {
+    CAVERNLULL_SLOT_KEPT = 0,
+    CAVERNLULL_SLOT_DAMAGED = 1,
+    CAVERNLULL_SLOT_REPEATED = 2
+};
+
+/* The salvage of a damaged table (PROFILE 2.10), in place: for a table that the agent refuses with 103. Each slot that is not
+ * well formed by itself is cleared. Then, where two or more slots that are not empty have one handle, the lowest is kept and the
+ * others are cleared. A cleared slot is all zeros, and no byte of any other slot changes. So the table left is well formed, and a
+ * second run clears nothing.
+ *
+ * Byte i of `report` becomes CAVERNLULL_SLOT_KEPT, CAVERNLULL_SLOT_DAMAGED or CAVERNLULL_SLOT_REPEATED, as slot i was kept, was
+ * cleared in the first step, or in the second. An empty slot is kept. The bytes after that of the last slot keep what they held.
+ * CAVERNLULL_MOST_SLOTS bytes are enough for every table.
+ *
+ * Returns 0 to 15, the number of slots cleared; a well-formed table gives 0 and stays as it is. Otherwise returns the first of
+ * these numbers that applies, and changes neither `table` nor `report`:
+ *   102 CAVERNLULL_TABLE_LENGTH         the table is not 1 to 15 slots of 4,288 bytes
+ *   107 CAVERNLULL_REPORT_BUFFER_SHORT  `report` has fewer bytes than the table has slots
+ *
+ * Where a slot was cleared, the tally from before is no longer the table's: get it from `cavernlull_tally`. A table that a version
+ * before 3.0.0 wrote is turned first (`cavernlull_turn`), since a count without its bit is damage to a salvage.
+ */
+uint16_t cavernlull_salvage(uint8_t *table, size_t table_length, uint8_t *report, size_t report_length);
 
 #ifdef __cplusplus
 }
