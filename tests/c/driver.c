@@ -14,6 +14,8 @@
  *                                                                left them
  *   l        string out (406 bytes)                              number, string out, as cavernlull_list left it
  *   u        none                                                number, string table, as cavernlull_turn left it
+ *   s        string report                                       number, strings report and table, as cavernlull_salvage
+ *                                                                left them
  *
  * Every string is lent so that it ends where memory ends: an access to the byte after it is a fault. A tally, and the fields of
  * a reply, are 16-bit numbers, the low byte first; their lengths are even, so they are aligned where they end.
@@ -221,6 +223,13 @@ static void turn(void) {
     give_string(table);
 }
 
+static void salvage(void) {
+    struct lent report = take_string(&areas[0]);
+    give_number(cavernlull_salvage(table.at, table.length, report.at, report.length));
+    give_string(report);
+    give_string(table);
+}
+
 static _Noreturn __attribute__((used)) void run(void) {
     wall_off(&table_area);
     for (size_t i = 0; i < sizeof areas / sizeof areas[0]; i++) wall_off(&areas[i]);
@@ -233,6 +242,7 @@ static _Noreturn __attribute__((used)) void run(void) {
         case 'r': read_reply(); break;
         case 'l': list(); break;
         case 'u': turn(); break;
+        case 's': salvage(); break;
         default: leave(2);
         }
     }

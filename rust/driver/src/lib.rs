@@ -194,6 +194,17 @@ impl Commands {
         self.0.write_all(b"u")
     }
 
+    /// Has `cavernlull_salvage` called on the table, with a report buffer that
+    /// holds these bytes; the answer is a [`Salvaged`].
+    ///
+    /// # Errors
+    ///
+    /// Where the driver has ended.
+    pub fn salvage(&mut self, report: &[u8]) -> Result<()> {
+        self.0.write_all(b"s")?;
+        self.string(report)
+    }
+
     /// Sends what has not been sent yet.
     ///
     /// # Errors
@@ -363,6 +374,30 @@ impl Turned {
     }
 }
 
+/// What a call of `cavernlull_salvage` gave, and what it left.
+#[derive(Debug, PartialEq, Eq)]
+pub struct Salvaged {
+    /// The number.
+    pub number: u16,
+    /// The whole report buffer.
+    pub report: Vec<u8>,
+    /// The whole table.
+    pub table: Vec<u8>,
+}
+
+impl Salvaged {
+    /// Whether this is exactly the salvage expected.
+    ///
+    /// # Errors
+    ///
+    /// A sentence that names the first thing that differs.
+    pub fn same_as(&self, expected: &Salvaged) -> Same {
+        same_number(self.number, expected.number)?;
+        same_bytes("the report buffer", &self.report, &expected.report)?;
+        same_bytes("the table", &self.table, &expected.table)
+    }
+}
+
 /// Nothing, or a sentence that names the first thing that differs.
 pub type Same = std::result::Result<(), String>;
 
@@ -479,6 +514,19 @@ impl Answers {
     pub fn turned(&mut self) -> Turned {
         Turned {
             number: self.number(),
+            table: self.string(),
+        }
+    }
+
+    /// The next answer to a salvage.
+    ///
+    /// # Panics
+    ///
+    /// Where the driver ends before it has answered.
+    pub fn salvaged(&mut self) -> Salvaged {
+        Salvaged {
+            number: self.number(),
+            report: self.string(),
             table: self.string(),
         }
     }
