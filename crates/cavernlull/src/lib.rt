@@ -1,4 +1,4 @@
-// What a front end or a device links: six functions under C's calling convention, declared for C in include/cavernlull.h. In C a slice is
+// What a front end or a device links: seven functions under C's calling convention, declared for C in include/cavernlull.h. In C a slice is
 // a pointer and then a length, and an array is a pointer. Any bytes and any lengths may be lent. What is lent to be changed shares no byte
 // with anything else that is lent in the same call.
 use crate::numbers::REPLY_NUMBERS;
@@ -17,10 +17,12 @@ ghost use Rattle.profile.specs.Agent.{agent as agentOf};
 ghost use Rattle.profile.specs.Bytes.{over};
 ghost use Rattle.profile.specs.Device.{fieldsWith, write};
 ghost use Rattle.profile.specs.Listing.{listing};
+ghost use Rattle.profile.specs.Salvage.{salvage as salvageOf};
 ghost use Rattle.profile.specs.Tally.{tallied, workOut};
 ghost use Rattle.profile.specs.Turning.{turn as turnOf};
 ghost use Rattle.agent.specs.Call.{outcome, callOf};
 ghost use Rattle.request_writer.specs.Writing.{wrote};
+ghost use Rattle.salvage.specs.Salvages.{salvaged};
 ghost use Rattle.turning.specs.Turns.{turned};
 ghost use Rattle.cavernlull.specs.Numbers.{left, ReadsInto};
 
@@ -112,6 +114,15 @@ pub extern "C" fn cavernlull_turn(table: &mut [u8]) -> u16
     ensures { λ r. ⌜ turned r (now (table .exit)) ≡ turnOf (now (table .entry)) ⌝ }
 {
     turning::turn(table)
+}
+
+// Salvages a damaged table (PROFILE 2.10): gives how many slots were cleared, and byte i of `report` says what was found of slot i. Every other
+// byte of both stays. With 102 and 107 nothing is changed.
+#[no_mangle]
+pub extern "C" fn cavernlull_salvage(table: &mut [u8], report: &mut [u8]) -> u16
+    ensures { λ r. ⌜ salvaged r (now (table .exit)) (now (report .exit)) ≡ salvageOf (now (table .entry)) (now (report .entry)) ⌝ }
+{
+    salvage::salvage(table, report)
 }
 
 // The listing of a table (PROFILE 7.1 and 7.2) at the start of `out`, whose other bytes stay. It gives the listing's length, and refuses
