@@ -13,7 +13,7 @@ use Rattle.profile.specs.Table.{slotCount, slotsOf, wholeSlots, wellTabl
 use Rattle.profile.specs.Agent.{Call, agent}
 use Rattle.profile.specs.History.{Ledger}
 use Rattle.profile.specs.Run.{ledgerOf, underSlot, underSetup, underRight, underSlots, underLedger, Agrees}
-use Rattle.profile.proofs.Logic.{and-parts, from-1-to-says}
+use Rattle.profile.proofs.WholeSlots.{one-or-more}
 use Rattle.profile.proofs.Lookup.{under-once}
 use Rattle.profile.proofs.Tables.{table-slots}
 use Rattle.profile.proofs.WellFormed.{table-fits, table-distinct, count-slots, few-slots}
@@ -55,10 +55,7 @@ table-agrees t d = record { each = λ h. under-ledger h t (under-once h t d); on
 -- ---- on the bytes
 module _ (table : Bytes) (bytes : Bytes256 table) (whole : wholeSlots table ≡ true) (well : wellTable table ≡ true) where
   some-slots : 1 ≤ length (slotsOf table)
-  unfolding wholeSlots
-  some-slots =
-      rw (count-slots table whole well)
-      (from-1-to-says 15 (slotCount table) (and-parts (eqb (length table % slotSize) 0) (from1to 15 (slotCount table)) whole .1) .0)
+  some-slots = rw (count-slots table whole well) (one-or-more table whole)
 
   pub sound-by : (l : Ledger) → Agrees l (slotsOf table) → Sound l table
   sound-by l a =

@@ -1,19 +1,25 @@
--- PROFILE 2.10: where one slot of a well-formed table has come to other bytes, a salvage clears at most one slot.
-use Prim.Native.Nat.{ℕ, zero, suc, _*_, _/_, _≤_}
+-- PROFILE 2.10: where one slot of a well-formed table has come to other bytes, a salvage clears at most one slot, and which that can be.
+use Prim.Native.Nat.{ℕ, zero, suc, _*_, _/_, _≤_, _<_}
 use mathlib.Core.Path.{_≡_, refl, sym, ap, _∙_}
 use mathlib.Core.Logic.{_⊎_, inl, inr}
 use mathlib.Core.List.{List, [], _∷_, map}
 use mathlib.Core.Bool.{Bool, true, false, true≢false, false≢true}
+use mathlib.Core.Option.{Option, some, Option·some-injective}
 use native.Mathlib.Omega.{arith}
-use lib.ListN.{length, set, replicate, length-set}
-use Rattle.profile.specs.Bytes.{Bytes, same, all, joined, Each}
-use Rattle.profile.specs.Slot.{Slot, empty, taken, named, inUse, distinct}
+use native.Mathlib.Nat.{suc-inj}
+use lib.ListN.{length, set, getElem?, replicate, length-set}
+use Rattle.profile.specs.Bytes.{Bytes, same, zeros, all, joined, Each}
+use Rattle.profile.specs.Sizes.{slotSize}
+use Rattle.profile.specs.Slot.{Entry, Slot, empty, taken, named, inUse, distinct}
 use Rattle.profile.specs.Table.{unpack, wellSlot, slotCount, slotBytes, wholeSlots, wellTable}
-use Rattle.profile.specs.Salvage.{Finding, kept, damaged, repeated, mended, repeats, judge, findings, cleared, findingsOf, Salvaged, salvage}
+use Rattle.profile.specs.Salvage.{Finding, kept, damaged, repeated, mended, repeats, judge, findings, leftBy, cleared, findingsOf, Salvaged, salvage}
+use Rattle.profile.specs.Salvages.{TakenAt, Finds, is-damaged, is-repeated, is-kept, Beside, stays, gives-way}
 use Rattle.profile.proofs.Logic.{and-parts, or-parts, same-refl, same-eq, split}
 use Rattle.profile.proofs.Strings.{length-each, length-pieces}
-use Rattle.profile.proofs.Turning.{slots-joined, size, cut}
-use Rattle.profile.proofs.Salvage.{by-judge, mended-well, mended-not, Apart, apart-tail, distinct-tail, distinct-head, or-cases, no-repeat, judge-kept, all-kept, none-cleared, not-refused, formed}
+use Rattle.profile.proofs.WholeSlots.{slots-joined, size, cut}
+use Rattle.profile.proofs.Salvage.{by-judge, mended-well, mended-not, Apart, apart-tail, distinct-tail, distinct-head, or-cases, no-repeat, judge-kept, all-kept, none-cleared, not-refused, formed, salvages}
+use Rattle.profile.proofs.FirstEmpty.{not-there}
+use Rattle.profile.proofs.Laws.{apart}
 
 -- ---- the handle of a slot
 handleIn : Slot → Bytes
@@ -115,6 +121,39 @@ one-changed (suc i) lower (s ∷ slots) s′ w d a =
     p : (wellSlot s ≡ true) × (all wellSlot slots ≡ true)
     p = and-parts (wellSlot s) (all wellSlot slots) w
 
+-- ---- one element replaced
+set-other : (ps : List Bytes) (i j : ℕ) (y : Bytes) → (j ≡ i → ⊥) → getElem? (set ps i y) j ≡ getElem? ps j
+set-other [] i j y n = refl
+set-other (p ∷ ps) zero zero y n = absurd (n refl)
+set-other (p ∷ ps) zero (suc j) y n = refl
+set-other (p ∷ ps) (suc i) zero y n = refl
+set-other (p ∷ ps) (suc i) (suc j) y n = set-other ps i j y (λ e. n (ap suc e))
+
+set-there : (ps : List Bytes) (i : ℕ) (y b : Bytes) → getElem? (set ps i y) i ≡ some b → b ≡ y
+set-there [] i y b e = absurd (not-there e)
+set-there (p ∷ ps) zero y b e = sym (Option·some-injective y b e)
+set-there (p ∷ ps) (suc i) y b e = set-there ps i y b e
+
+same-index : (k i : ℕ) → (k ≡ i) ⊎ (k ≡ i → ⊥)
+same-index zero zero = inl refl
+same-index zero (suc i) = inr (λ e. omega (arith, e))
+same-index (suc k) zero = inr (λ e. omega (arith, e))
+same-index (suc k) (suc i) = go (same-index k i)
+  where
+    go : (k ≡ i) ⊎ (k ≡ i → ⊥) → (suc k ≡ suc i) ⊎ (suc k ≡ suc i → ⊥)
+    go (inl e) = inl (ap suc e)
+    go (inr n) = inr (λ e. n (suc-inj e))
+
+well-at : (ps : List Bytes) (j : ℕ) (p : Bytes) → all wellSlot ps ≡ true → getElem? ps j ≡ some p → wellSlot p ≡ true
+well-at [] j p w e = absurd (not-there e)
+well-at (q ∷ ps) zero p w e = ap wellSlot (sym (Option·some-injective q p e)) ∙ and-parts (wellSlot q) (all wellSlot ps) w .0
+well-at (q ∷ ps) (suc j) p w e = well-at ps j p (and-parts (wellSlot q) (all wellSlot ps) w .1) e
+
+unpack-at : (ps : List Bytes) (j : ℕ) (p : Bytes) → getElem? ps j ≡ some p → getElem? (map unpack ps) j ≡ some (unpack p)
+unpack-at [] j p e = absurd (not-there e)
+unpack-at (q ∷ ps) zero p e = ap {B = Option Slot} (λ (x : Bytes). some (unpack x)) (Option·some-injective q p e)
+unpack-at (q ∷ ps) (suc j) p e = unpack-at ps j p e
+
 -- ---- on the bytes
 each-set : (ps : List Bytes) (i : ℕ) (y : Bytes) → Each 4288 ps → length y ≡ 4288 → Each 4288 (set ps i y)
 each-set [] i y e l = tt
@@ -143,3 +182,28 @@ module _ (table : Bytes) (i : ℕ) (s : Bytes) (whole : wholeSlots table ≡ tru
   one-slot well report room =
       rw (not-refused worn worn-whole report (rw worn-length room), worn-slots)
       (one-changed i [] (slotBytes table) s (formed table whole well .0) (formed table whole well .1) (λ h u. absurd (false≢true u)))
+
+  -- a slot that is cleared, though it stayed as it was, has the handle of the one that has not
+  module _ (well : wellTable table ≡ true) (j : ℕ) (was is : Bytes) (n : j ≡ i → ⊥) (at : getElem? (slotBytes table) j ≡ some was) where
+    by-index : (h : Bytes) (f : Entry) (k : ℕ) → unpack was ≡ taken h f → k < j → TakenAt (slotBytes worn) k h → (k ≡ i) ⊎ (k ≡ i → ⊥) → Beside i s j was (zeros slotSize)
+    by-index h f k u l t (inl e) =
+        let b : t .bytes ≡ s = set-there (slotBytes table) i s (t .bytes) (sym (ap (λ (ps : List Bytes). getElem? ps i) worn-slots) ∙ ap (λ (x : ℕ). getElem? (slotBytes worn) x) (sym e) ∙ t .there) in
+        gives-way h (t .entry) f (rw (← e) l) (rw (← b) (t .well)) (rw (← b) (t .under)) u
+    by-index h f k u l t (inr d) =
+        let b : getElem? (slotBytes table) k ≡ some (t .bytes) = sym (set-other (slotBytes table) i k s d) ∙ sym (ap (λ (ps : List Bytes). getElem? ps k) worn-slots) ∙ t .there in
+        let e : k ≡ j =
+        apart (map unpack (slotBytes table)) (formed table whole well .1) k j h (t .entry) f (unpack-at (slotBytes table) k (t .bytes) b ∙ ap {B = Option Slot} some (t .under))
+        (unpack-at (slotBytes table) j was at ∙ ap {B = Option Slot} some u) in
+        absurd (omega (arith, e, l))
+
+    by-finding : {g : Finding} → Finds (slotBytes worn) j was g → Beside i s j was (leftBy g was)
+    by-finding (is-damaged w) = absurd (true≢false (sym (well-at (slotBytes table) j was (formed table whole well .0) at) ∙ w))
+    by-finding (is-repeated h f k w u l t) = by-index h f k u l t (same-index k i)
+    by-finding (is-kept w none) = stays
+
+  pub other-slots : wellTable table ≡ true → (report : Bytes) → slotCount table ≤ length report → (j : ℕ) (was is : Bytes) → (j ≡ i → ⊥) → getElem? (slotBytes table) j ≡ some was
+      → getElem? (slotBytes (salvage worn report .table)) j ≡ some is → Beside i s j was is
+  other-slots well report room j was is n at left =
+      let o = salvages worn worn-whole report (rw worn-length room) .slots j was (ap (λ (ps : List Bytes). getElem? ps j) worn-slots ∙ set-other (slotBytes table) i j s n ∙ at) in
+      let e : leftBy (o .finding) was ≡ is = Option·some-injective _ is (sym (o .left) ∙ left) in
+      rw e at (by-finding well j was is n at (o .finds))

@@ -15,10 +15,10 @@ use Rattle.profile.specs.Slot.{Entry, Slot, empty, taken, named, inUse, 
 use Rattle.profile.specs.Table.{unpack, pack, wellSlot, slotCount, slotBytes, slotsOf, wholeSlots, wellTable}
 use Rattle.profile.specs.Salvage.{Finding, kept, damaged, repeated, findingByte, mended, repeats, judge, findings, leftBy, leftSlots, cleared, findingsOf, leftOf, reportOf, Salvaged, salvage}
 use Rattle.profile.specs.Salvages.{TakenAt, Finds, is-damaged, is-repeated, is-kept, SlotSalvaged, Salvages}
-use Rattle.profile.proofs.Logic.{both, and-parts, or-parts, or-true, not-true, not-false, if-cases, if-else, same-refl, same-eq, same-false, split, ltb-false, ltb-over, ltb-lt, from-1-to-says}
+use Rattle.profile.proofs.Logic.{both, and-parts, or-parts, or-true, not-true, not-false, if-cases, if-else, same-refl, same-eq, same-false, split, ltb-false, ltb-over, ltb-lt}
 use Rattle.profile.proofs.Strings.{bytes-append, bytes-zeros, bytes-take, bytes-drop, length-zeros, length-each, length-pieces, joined-pieces}
 use Rattle.profile.proofs.Pack.{unpack-pack, well-pack}
-use Rattle.profile.proofs.Turning.{slots-joined, size, cut}
+use Rattle.profile.proofs.WholeSlots.{slots-joined, size, cut, at-most-15}
 use Rattle.profile.proofs.FirstEmpty.{not-there}
 
 -- ---- a slot of zeros
@@ -345,10 +345,7 @@ unfolding salvage wholeSlots
 salvage-refuses table report =
     if-else Stays (not (wholeSlots table)) (λ e. (refl, refl)) λ a.
     if-else Stays (ltb (length report) (slotCount table)) (λ e. (refl, refl)) λ b e.
-    absurd (omega (arith, e, few-cleared (findingsOf table), count-findings table (not-false (wholeSlots table) a), few (not-false (wholeSlots table) a)))
+    absurd (omega (arith, e, few-cleared (findingsOf table), count-findings table (not-false (wholeSlots table) a), at-most-15 table (not-false (wholeSlots table) a)))
   where
     Stays : Salvaged → Type 0
     Stays o = 15 < o .number → (o .table ≡ table) × (o .report ≡ report)
-
-    few : wholeSlots table ≡ true → slotCount table ≤ 15
-    few w = from-1-to-says 15 (slotCount table) (and-parts (eqb (length table % 4288) 0) (from1to 15 (slotCount table)) w .1) .1

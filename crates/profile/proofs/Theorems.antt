@@ -13,7 +13,7 @@ use Rattle.profile.proofs.Tables.{slots-table, table-slots, well-table,
 use Rattle.profile.proofs.WellFormed.{table-fits, table-distinct}
 use Rattle.profile.proofs.Turning.{turns, turn-refuses, turned-once}
 use Rattle.profile.proofs.Salvage.{salvages, salvage-refuses, nothing-damaged, salvaged-twice}
-use Rattle.profile.proofs.OneSlot.{one-slot}
+use Rattle.profile.proofs.OneSlot.{one-slot, other-slots}
 use Rattle.profile.proofs.Lookup.{under-once}
 use Rattle.profile.proofs.FirstEmpty.{first-empty, first-only, none-empty, none-alike, from-0}
 use Rattle.profile.proofs.Frames.{reads}
@@ -73,6 +73,7 @@ theorems =
       nothing-damaged = λ table report whole well room. nothing-damaged table whole well report room;
       salvaged-twice = salvaged-twice;
       one-slot = λ table report i s whole well room long. one-slot table i s whole long well report room;
+      other-slots = λ table report i s whole well room long. other-slots table i s whole long well report room;
       read-fits = λ f q e. read-fits f q (rw e at (reads f));
       read-write = read-write;
       written-reads = written-reads;

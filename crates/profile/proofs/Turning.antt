@@ -15,6 +15,7 @@ use Rattle.profile.specs.Turning.{wellBefore, wellTableBefore, countBefo
 use Rattle.profile.specs.Theorems.{Turns}
 use Rattle.profile.proofs.Logic.{both, and-parts, not-false, eqb-eq, eqb-true, if-else, if-cases}
 use Rattle.profile.proofs.Strings.{low-two, word-drop, zero-byte, length-each, length-pieces, each-pieces, pieces-joined}
+use Rattle.profile.proofs.WholeSlots.{slots-joined, size, cut}
 use Rattle.profile.proofs.Counts.{slot-kept-again}
 use Rattle.profile.proofs.Unpack.{WellRest, well-rest, WellReserved, well-reserved}
 
@@ -210,21 +211,6 @@ distinct-before : (ps : List Bytes) → distinct (map unpackBefore ps) ≡ disti
 distinct-before ps = sym (distinct-anonymous (map unpackBefore ps)) ∙ ap distinct (same-labels ps) ∙ distinct-anonymous (map unpack ps)
 
 -- ---- tables
-pub slots-joined : (qs : List Bytes) → Each 4288 qs → slotBytes (joined qs) ≡ qs
-unfolding slotBytes
-slots-joined qs e =
-    let n : slotCount (joined qs) ≡ length qs = rw (length-each 4288 qs e) (omega arith) in
-    rw n (ap (pieces 4288 (length qs)) (sym (append-nil (joined qs))) ∙ pieces-joined 4288 qs [] e)
-
-module _ (table : Bytes) (whole : wholeSlots table ≡ true) where
-  pub size : length table ≡ 4288 * slotCount table
-  unfolding wholeSlots
-  size = omega (arith, eqb-eq (length table % 4288) 0 (and-parts (eqb (length table % 4288) 0) (from1to 15 (slotCount table)) whole .0))
-
-  pub cut : Each 4288 (slotBytes table)
-  unfolding slotBytes
-  cut = each-pieces 4288 (slotCount table) table (omega (arith, size))
-
 module _ (table : Bytes) (whole : wholeSlots table ≡ true) (well : wellTableBefore table ≡ true) where
   abbrev turned : List Bytes
   turned = map turnSlot (slotBytes table)

@@ -8,7 +8,7 @@ use Rattle.profile.specs.Bytes.{Bytes}
 use Rattle.profile.specs.Text.{text}
 use Rattle.profile.specs.Slot.{reserved, empty, taken}
 use Rattle.profile.specs.Salvage.{Finding, kept, damaged, repeated, judge, mended, findings, leftBy, cleared, Salvaged, salvage}
-use Rattle.profile.specs.SalvageText.{findingLines, salvageText}
+use Rattle.profile.specs.SalvageText.{tablePrinted, findingLines, salvageText}
 use Rattle.profile.specs.CaseBytes.{hex, changed, renamed, H0, H1, H2, H4}
 use Rattle.profile.specs.CaseTables.{blank, after1, after7, after9, after11, counted7, bare, hashed2, nameless, waiting}
 
@@ -54,12 +54,13 @@ tables =
     ∷ refuses (0x00 ∷ after7 ++ blank ++ blank ++ blank) 102
     ∷ []
 
--- ---- tables, and what is printed
-unfoldable pub printed : List (Bytes × String)
+-- ---- tables, and what is printed: the table left, and the report in words
+unfoldable pub printed : List (Bytes × Bytes × String)
 printed =
-    (after7, "0 kept\ncleared 0\n")
-    ∷ (after9 ++ worn7 ++ after11, "0 kept\n1 damaged\n2 repeated\ncleared 2\n")
-    ∷ ([], "refused 102\n")
+    (after7, after7, "0 kept\ncleared 0\n")
+    ∷ (after9 ++ worn7 ++ after11, after9 ++ blank ++ blank, "0 kept\n1 damaged\n2 repeated\ncleared 2\n")
+    ∷ ([], [], "refused 102\n")
+    ∷ (take 4287 after7, [], "refused 102\n")
     ∷ []
 
 -- ---- these are what the definitions say
@@ -74,5 +75,6 @@ pub record Hold : Type 0 where
   pub left : map (λ f. leftBy f hashed2) (kept ∷ damaged ∷ repeated ∷ []) ≡ hashed2 ∷ blank ∷ blank ∷ []
   pub counted : cleared (kept ∷ damaged ∷ repeated ∷ kept ∷ damaged ∷ []) ≡ 3
   -- what the salvage of a table prints; the index has two digits from the eleventh slot on
-  pub prints : map (λ c. salvageText (c .0)) printed ≡ map (λ c. text (c .1)) printed
+  pub prints : map (λ c. salvageText (c .0)) printed ≡ map (λ c. text (c .2)) printed
+  pub prints-table : map (λ c. tablePrinted (c .0)) printed ≡ map (λ c. c .1) printed
   pub later : findingLines 9 (kept ∷ repeated ∷ []) ≡ text "9 kept\n10 repeated\n"

@@ -1,4 +1,4 @@
--- PROFILE 2.11: the report of a salvage in words, which the program `cardsalvage` prints.
+-- PROFILE 2.11: what the program `cardsalvage` prints: the table left, and the report in words.
 use Prim.Native.Nat.{ℕ, suc}
 use mathlib.Core.List.{List, [], _∷_, _++_}
 use mathlib.Core.Bool.{not}
@@ -6,9 +6,14 @@ use Rattle.profile.specs.Bytes.{Bytes, if_then_else_}
 use Rattle.profile.specs.Sizes.{tableLength}
 use Rattle.profile.specs.Text.{text}
 use Rattle.profile.specs.Table.{wholeSlots}
-use Rattle.profile.specs.Salvage.{Finding, kept, damaged, repeated, cleared, findingsOf}
+use Rattle.profile.specs.Salvage.{Finding, kept, damaged, repeated, cleared, findingsOf, leftOf}
 use Rattle.profile.specs.Listing.{decimal, refusedLine}
 
+-- ---- to standard output: the table left, and of a refused one nothing
+unfoldable pub tablePrinted : Bytes → Bytes
+tablePrinted table = if not (wholeSlots table) then [] else leftOf table
+
+-- ---- to standard error: the report in words
 abbrev pub findingWord : Finding → Bytes
 findingWord kept = text "kept"
 findingWord damaged = text "damaged"

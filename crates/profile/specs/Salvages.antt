@@ -5,7 +5,8 @@ use mathlib.Core.List.{List}
 use mathlib.Core.Option.{some}
 use mathlib.Core.Bool.{true, false}
 use lib.ListN.{length, drop, getElem?}
-use Rattle.profile.specs.Bytes.{Bytes}
+use Rattle.profile.specs.Bytes.{Bytes, zeros}
+use Rattle.profile.specs.Sizes.{slotSize}
 use Rattle.profile.specs.Slot.{Entry, taken}
 use Rattle.profile.specs.Table.{unpack, wellSlot, slotCount, slotBytes, wholeSlots, wellTable}
 use Rattle.profile.specs.Salvage.{Finding, kept, damaged, repeated, findingByte, leftBy, Salvaged}
@@ -43,3 +44,9 @@ pub record Salvages (table report : Bytes) (o : Salvaged) : Type 0 where
   pub few : o .number ≤ slotCount table
   pub long : length (o .report) ≡ length report
   pub rest : drop (slotCount table) (o .report) ≡ drop (slotCount table) report
+
+-- ---- one slot of a well-formed table, slot i, has come to other bytes, s
+-- any other slot j is then as it was; unless the bytes s are a record under its handle, and stand below it: then it gives way
+pub data Beside (i : ℕ) (s : Bytes) (j : ℕ) (was : Bytes) : Bytes → Type 0 where
+  stays : Beside i s j was was
+  gives-way : (h : Bytes) (e f : Entry) → i < j → wellSlot s ≡ true → unpack s ≡ taken h e → unpack was ≡ taken h f → Beside i s j was (zeros slotSize)

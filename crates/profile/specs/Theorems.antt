@@ -39,7 +39,7 @@ use Rattle.profile.specs.Demand3.{Demand3From, Demand3}
 use Rattle.profile.specs.Starts.{AlikeButPlaces, OtherStart, OtherStarts, SameCall, SameRun}
 use Rattle.profile.specs.Tallies.{CountsAll, Carries}
 use Rattle.profile.specs.Unlisted.{OpenToUse, OpenToReturn, HoldsRight, HoldsRightBut, FoundByCourse}
-use Rattle.profile.specs.Salvages.{Salvages}
+use Rattle.profile.specs.Salvages.{Salvages, Beside}
 use Rattle.profile.specs.History.{blankLedger}
 use Rattle.profile.specs.Run.{numbersThen, blankTable, tableAfterAll, ledgerOf, ledgerThen}
 use Rattle.profile.specs.Laws.{Apart, Refuses, AStatus, FoundIs, Full, FirstEmpty, SetsFirst, ListsExactly}
@@ -106,7 +106,7 @@ pub record Theorems : Type 0 where
   pub turn-refuses : (table : Bytes) → eqb (turn table .number) 0 ≡ false → turn table .table ≡ table
   pub turned-once : (table : Bytes) → wholeSlots table ≡ true → any keepsCount (slotsOf table) ≡ true → turn table ≡ record { number = 103; table = table }
   -- PROFILE 2.10: what a salvage leaves, and that it changes nothing where it refuses; a well-formed table stays as it is, and so does one that was salvaged; where
-  -- one slot of a well-formed table has come to other bytes, at most one slot is cleared
+  -- one slot of a well-formed table has come to other bytes, at most one slot is cleared, and any other than this one only if it now has its handle
   pub salvages : (table report : Bytes) → wholeSlots table ≡ true → slotCount table ≤ length report → Salvages table report (salvage table report)
   pub salvage-refuses : (table report : Bytes) → 15 < salvage table report .number → (salvage table report .table ≡ table) × (salvage table report .report ≡ report)
   pub nothing-damaged : (table report : Bytes) → wholeSlots table ≡ true → wellTable table ≡ true → slotCount table ≤ length report
@@ -115,6 +115,9 @@ pub record Theorems : Type 0 where
       → salvage (salvage table report .table) again ≡ record { number = 0; table = salvage table report .table; report = over (zeros (slotCount table)) again }
   pub one-slot : (table report : Bytes) (i : ℕ) (s : Bytes) → wholeSlots table ≡ true → wellTable table ≡ true → slotCount table ≤ length report → length s ≡ slotSize
       → salvage (joined (set (slotBytes table) i s)) report .number ≤ 1
+  pub other-slots : (table report : Bytes) (i : ℕ) (s : Bytes) → wholeSlots table ≡ true → wellTable table ≡ true → slotCount table ≤ length report → length s ≡ slotSize
+      → (j : ℕ) (was is : Bytes) → (j ≡ i → ⊥) → getElem? (slotBytes table) j ≡ some was
+      → getElem? (slotBytes (salvage (joined (set (slotBytes table) i s)) report .table)) j ≡ some is → Beside i s j was is
   -- PROFILE 6.4: a request reads back to the fields written; a frame that reads as a request is written again to the same bytes, but for its verdict
   pub read-fits : (f : Bytes) (q : Request) → readRequest f ≡ asks q → RequestFits q
   pub read-write : (q : Request) → RequestFits q → readRequest (writeRequest q) ≡ asks q

@@ -11,7 +11,7 @@ use Rattle.profile.specs.Bytes.{Bytes, part, pieces}
 use Rattle.profile.specs.Slot.{Slot, empty, taken, inUse, distinct}
 use Rattle.profile.specs.Table.{placeOf, unpack, wellSlot, slotCount, slotBytes, slotsOf, wellTable}
 use Rattle.profile.specs.Salvage.{findingByte, judge}
-use Rattle.profile.proofs.Turning.{slots-joined}
+use Rattle.profile.proofs.WholeSlots.{slots-joined}
 use Rattle.slots.proofs.Pieces.{pieces-within}
 use Rattle.slots.proofs.Unpacking.{unpack-empty, unpack-taken}
 use Rattle.tables.proofs.SlotParts.{getD-slots}

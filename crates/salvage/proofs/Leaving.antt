@@ -1,21 +1,20 @@
 -- The slots of a table, of which the first i are settled. Assumes nothing.
-use Prim.Native.Nat.{ℕ, zero, suc, _+_, _*_, _%_, _≤_, _<_}
+use Prim.Native.Nat.{ℕ, zero, suc, _+_, _*_, _≤_, _<_}
 use mathlib.Core.Path.{_≡_, refl, sym, ap, ap₂, _∙_}
 use mathlib.Core.List.{List, [], _∷_, map}
 use mathlib.Core.Bool.{Bool, true, false, _||_, true≢false, false≢true}
 use native.Mathlib.Omega.{arith}
 use native.Mathlib.Nat.{le-of-suc-le-suc, not-suc-le-zero}
 use native.Mathlib.Numerals.{add-one}
-use lib.Dec.{eqb}
 use lib.ListN.{length, getD, take, set}
 use lib.Seq.{take-all}
-use Rattle.profile.specs.Bytes.{Bytes, from1to, joined, Each}
+use Rattle.profile.specs.Bytes.{Bytes, joined, Each}
 use Rattle.profile.specs.Slot.{Slot, empty, taken, named, inUse}
 use Rattle.profile.specs.Table.{unpack, wellSlot, slotCount, slotBytes, slotsOf, wholeSlots}
 use Rattle.profile.specs.Salvage.{Finding, kept, damaged, repeated, findingByte, mended, repeats, judge, findings, leftBy, leftSlots, findingsOf, leftOf}
-use Rattle.profile.proofs.Logic.{same-eq, and-parts, from-1-to-says}
+use Rattle.profile.proofs.Logic.{same-eq}
 use Rattle.profile.proofs.Strings.{length-each, joined-pieces}
-use Rattle.profile.proofs.Turning.{slots-joined, size, cut}
+use Rattle.profile.proofs.WholeSlots.{slots-joined, size, cut}
 use Rattle.profile.proofs.Salvage.{by-judge, mended-well, mended-not, length-left, unpack-zeros, lowerTo}
 use Rattle.tables.proofs.SlotParts.{length-bytes}
 use Rattle.salvage.specs.Salvages.{foundAt, Settled}
@@ -116,10 +115,6 @@ unfoldable pub findingAt : ℕ → Bytes → Finding
 findingAt i t = judge (lowerTo i [] (slotBytes t)) (getD (slotBytes t) i [])
 
 module _ (t : Bytes) (whole : wholeSlots t ≡ true) where
-  pub few-slots : slotCount t ≤ 15
-  unfolding wholeSlots
-  few-slots = from-1-to-says 15 (slotCount t) (and-parts (eqb (length t % 4288) 0) (from1to 15 (slotCount t)) whole .1) .1
-
   slots-now : (i : ℕ) → slotBytes (settledTo i t) ≡ leftTo i [] (slotBytes t)
   unfolding settledTo
   slots-now i = slots-joined (leftTo i [] (slotBytes t)) (each-leftTo i [] (slotBytes t) (cut t whole))

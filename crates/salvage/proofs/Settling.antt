@@ -10,7 +10,7 @@ use Rattle.profile.specs.Bytes.{Bytes, zeros, joined}
 use Rattle.profile.specs.Table.{slotCount, slotBytes, wholeSlots}
 use Rattle.profile.specs.Salvage.{Finding, kept, damaged, repeated, findingByte, leftBy}
 use Rattle.profile.proofs.Strings.{joined-pieces, joined-set}
-use Rattle.profile.proofs.Turning.{size}
+use Rattle.profile.proofs.WholeSlots.{size}
 use Rattle.salvage.specs.Salvages.{foundAt, Settled}
 
 -- ---- what is found, by its byte

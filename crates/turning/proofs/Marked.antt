@@ -15,7 +15,8 @@ use Rattle.profile.specs.Table.{keptOf, spareOf, slotCount, slotBytes, slotsOf,
 use Rattle.profile.specs.Turning.{wellBefore, wellTableBefore, turnSlot}
 use Rattle.profile.proofs.Logic.{and-parts, if-both}
 use Rattle.profile.proofs.Strings.{length-each, joined-pieces, joined-set}
-use Rattle.profile.proofs.Turning.{Before, before, slots-joined, size, cut}
+use Rattle.profile.proofs.WholeSlots.{slots-joined, size, cut}
+use Rattle.profile.proofs.Turning.{Before, before}
 use Rattle.tables.proofs.SlotParts.{length-bytes, getD-slots, length-slot}
 
 -- ---- the first i slots turned

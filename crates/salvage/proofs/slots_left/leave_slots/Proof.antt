@@ -5,7 +5,8 @@ use mathlib.Core.Path.{_≡_, refl, sym, ap, _∙_}
 use mathlib.Core.Logic.{⊎-elim}
 use native.Mathlib.Omega.{arith}
 use lib.ListN.{length, length-set}
-use Rattle.salvage.proofs.Leaving.{settledTo, few-slots, settled-length, settled-whole, settled-none, settled-all, found-byte, settled-more}
+use Rattle.profile.proofs.WholeSlots.{at-most-15}
+use Rattle.salvage.proofs.Leaving.{settledTo, settled-length, settled-whole, settled-none, settled-all, found-byte, settled-more}
 use Rattle.salvage.proofs.Reporting.{reportedTo, clearedTo, reported-none, cleared-none, reported-length, few-to, reported-more, cleared-same, cleared-more, reported-all, cleared-all}
 use borrow.Author.Needs.{needs}
 use Rattle.salvage.proofs.slots_left.leave_slots.Statement.{statement}
@@ -40,7 +41,7 @@ add-cleared : tie.Need-add-cleared Inv-loop μ-loop
 add-cleared c =
     let l = c .before .before .before .before .before .before in
     let start = l .before .before .before in
-    omega (arith, l .loop .inv .0, l .loop .inv .5, few-to (l .loop .i) (now (start .args .t)), few-slots (now (start .args .t)) (start .pre .0))
+    omega (arith, l .loop .inv .0, l .loop .inv .5, few-to (l .loop .i) (now (start .args .t)), at-most-15 (now (start .args .t)) (start .pre .0))
 
 add-i : tie.Need-add-i Inv-loop μ-loop
 add-i c = search needs
