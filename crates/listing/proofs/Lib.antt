@@ -1,5 +1,4 @@
--- numbers and words
-pub mod Digits
+-- words and numbers
 pub mod Writing
 -- lines
 pub mod SlotLines

@@ -21,9 +21,11 @@ use Rattle.slots.specs.Places.{placeNumber}
 use Rattle.tables.proofs.SlotParts.{length-bytes, length-slots, getD-slots}
 use Rattle.slots.proofs.WellSlots.{few-hashes, length-most-4096}
 use Rattle.tables.proofs.WellTables.{slot-well}
-use Rattle.listing.specs.Written.{Wrote, Listable, number, field, placed, labelOf, sizesOf, lineOf, linesOf}
-use Rattle.listing.proofs.Digits.{number-few}
-use Rattle.listing.proofs.Writing.{wrote-none, wrote-length, wrote-then, field-most, field-few, placed-few}
+use Rattle.texts.specs.Written.{Wrote, number}
+use Rattle.texts.proofs.Digits.{number-few}
+use Rattle.texts.proofs.Writing.{wrote-none, wrote-length, wrote-then}
+use Rattle.listing.specs.Written.{Listable, field, placed, labelOf, sizesOf, lineOf, linesOf}
+use Rattle.listing.proofs.Writing.{field-most, field-few, placed-few}
 
 -- ---- one line
 -- its front

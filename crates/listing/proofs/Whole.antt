@@ -11,8 +11,9 @@ use Rattle.profile.specs.Sizes.{tableLength, tableNotWellFormed}
 use Rattle.profile.specs.Table.{wholeSlots, wellTable}
 use Rattle.profile.specs.Listing.{header, listing}
 use Rattle.buffers.proofs.Overlays.{over-start}
-use Rattle.listing.specs.Written.{Wrote, Listable, linesOf, refusal}
-use Rattle.listing.proofs.Writing.{wrote-then}
+use Rattle.texts.specs.Written.{Wrote, refusal}
+use Rattle.texts.proofs.Writing.{wrote-then}
+use Rattle.listing.specs.Written.{Listable, linesOf}
 
 -- the code's tests p and q are the definition's, and branches are taken by `!p` and `!q`
 pub listable : {t : Bytes} {p q : Bool} → p ≡ wholeSlots t → not p ≡ false → q ≡ wellTable t → not q ≡ false → Listable t

@@ -1,20 +1,13 @@
 -- The parts of a listing as they are put into a buffer, one after the other.
-use Prim.Native.Nat.{ℕ, _+_, _≤_}
+use Prim.Native.Nat.{ℕ}
 use mathlib.Core.Path.{_≡_}
 use mathlib.Core.List.{_++_}
 use mathlib.Core.Bool.{true}
-use lib.ListN.{length}
 use Rattle.profile.specs.Bytes.{Bytes}
 use Rattle.profile.specs.Text.{text}
 use Rattle.profile.specs.Table.{slotBytes, wholeSlots, wellTable}
-use Rattle.profile.specs.Listing.{decimal, placeWord, line, lines, refusedLine}
-use Rattle.buffers.specs.Over.{overAt}
-
--- bytes stand at an offset of a buffer, which was d and is d', and end within it
-pub record Wrote (xs : Bytes) (at : ℕ) (d d' : Bytes) (end : ℕ) : Type 0 where
-  pub ends : end ≡ at + length xs
-  pub inside : end ≤ length d
-  pub written : d' ≡ overAt at xs d
+use Rattle.profile.specs.Listing.{placeWord, line, lines}
+use Rattle.texts.specs.Written.{number}
 
 -- past 102 and 103: what is not refused
 pub record Listable (table : Bytes) : Type 0 where
@@ -22,9 +15,6 @@ pub record Listable (table : Bytes) : Type 0 where
   pub well : wellTable table ≡ true
 
 -- the parts of the profile's definitions, under names that stay shut
-unfoldable pub number : ℕ → Bytes
-number n = decimal n
-
 unfoldable pub field : ℕ → Bytes
 field n = text " " ++ number n
 
@@ -43,6 +33,3 @@ lineOf i s = line i s
 
 unfoldable pub linesOf : Bytes → Bytes
 linesOf table = lines 0 (slotBytes table)
-
-unfoldable pub refusal : ℕ → Bytes
-refusal n = refusedLine n

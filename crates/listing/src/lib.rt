@@ -7,7 +7,7 @@ ghost use lib.ListN.{length};
 ghost use Rattle.profile.specs.Bytes.{over};
 ghost use Rattle.profile.specs.Listing.{listing};
 
-mod put; // put.rt: words and numbers, one after the other
+mod put; // put.rt: the words and numbers of a line
 mod lines; // lines.rt: the line of a slot, and those of all slots
 
 // Room for every listing: a header of 31 bytes, and for each slot a line of at most 25, which is what an index of two digits, a word of
@@ -24,11 +24,11 @@ pub fn list(table: &[u8], out: &mut [u8; LISTING_ROOM]) -> usize
     ensures { λ r. ⌜ (r ≡ length (listing (now (table .entry)))) × (now (out .exit) ≡ over (listing (now (table .entry))) (now (out .entry))) ⌝ }
 {
     if !tables::part::whole_slots(table) {
-        return put::put_refusal(out, LENGTH_REFUSED);
+        return texts::put_refusal(out, LENGTH_REFUSED);
     }
     if !tables::table::well_table(table) {
-        return put::put_refusal(out, FORM_REFUSED);
+        return texts::put_refusal(out, FORM_REFUSED);
     }
-    let at = put::put_word(out, 0, b"slot place hashes count length\n");
+    let at = texts::put_word(out, 0, b"slot place hashes count length\n");
     lines::put_lines(out, at, table)
 }

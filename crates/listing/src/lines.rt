@@ -1,17 +1,18 @@
 // The lines of a listing (PROFILE 7.1): index, place, hash count, count and payload length, with one space between and a newline after.
 use crate::put::put_field;
-use crate::put::put_number;
 use crate::put::put_place;
-use crate::put::put_word;
 use profile::sizes::SLOT_BYTES;
 use slots::place::Place;
+use texts::put_number;
+use texts::put_word;
 ghost use mathlib.Core.Path.{_≡_};
 ghost use Prim.Native.Nat.{_+_, _*_, _<_, _≤_};
 ghost use lib.ListN.{length};
 ghost use Rattle.profile.specs.Sizes.{slotSize, mostSlots};
 ghost use Rattle.profile.specs.Table.{hashCountOf, lengthOf};
 ghost use Rattle.slots.specs.Places.{placeNumber};
-ghost use Rattle.listing.specs.Written.{Wrote, labelOf, sizesOf, lineOf, linesOf, Listable};
+ghost use Rattle.texts.specs.Written.{Wrote};
+ghost use Rattle.listing.specs.Written.{labelOf, sizesOf, lineOf, linesOf, Listable};
 
 // The front of a line: index and place.
 fn put_label(out: &mut [u8], at: usize, i: usize, place: Place) -> usize

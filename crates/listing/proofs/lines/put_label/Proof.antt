@@ -1,7 +1,7 @@
 -- `listing::lines::put_label` meets its contract: the index, a space and the place. Assumes nothing.
 use native.Mathlib.Omega.{arith}
 use Rattle.slots.specs.Places.{placeNumber}
-use Rattle.listing.proofs.Digits.{number-few}
+use Rattle.texts.proofs.Digits.{number-few}
 use Rattle.listing.proofs.SlotLines.{label-there}
 use borrow.Author.Needs.{needs}
 use Rattle.listing.proofs.lines.put_label.Statement.{statement}

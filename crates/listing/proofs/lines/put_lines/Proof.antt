@@ -3,7 +3,7 @@ use denote.Ref.{now}
 use Prim.Native.Nat.{_≤_, _-_}
 use native.Mathlib.Omega.{arith}
 use borrow.Author.Needs.{needs}
-use Rattle.listing.proofs.Writing.{wrote-length}
+use Rattle.texts.proofs.Writing.{wrote-length}
 use Rattle.listing.proofs.SlotLines.{Passed, passed-none, passed-all, line-asks, pass-next}
 use Rattle.listing.proofs.lines.put_lines.Statement.{statement}
 use Rattle.listing.proofs.lines.put_lines.Tie as tie

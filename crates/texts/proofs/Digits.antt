@@ -10,7 +10,7 @@ use Rattle.io.specs.Digits.{glyph, digits as shown, Fewest}
 use Rattle.profile.specs.Bytes.{Bytes}
 use Rattle.profile.specs.Listing.{digits}
 use Rattle.profile.proofs.Logic.{if-cases}
-use Rattle.listing.specs.Written.{number}
+use Rattle.texts.specs.Written.{number}
 
 -- ---- the kit's digits
 glyph-digit : (n : ℕ) → glyph (n % 10) ≡ 48 + n % 10

@@ -1,10 +1,10 @@
--- `listing::put::put_refusal` meets its contract: a word, the number, a newline. Assumes nothing.
+-- `texts::put_refusal` meets its contract: a word, the number, a newline. Assumes nothing.
 use native.Mathlib.Omega.{arith}
-use Rattle.listing.proofs.Digits.{number-few}
-use Rattle.listing.proofs.Writing.{refusal-there}
+use Rattle.texts.proofs.Digits.{number-few}
+use Rattle.texts.proofs.Writing.{refusal-there}
 use borrow.Author.Needs.{needs}
-use Rattle.listing.proofs.put.put_refusal.Statement.{statement}
-use Rattle.listing.proofs.put.put_refusal.Tie as tie
+use Rattle.texts.proofs.put_refusal.Statement.{statement}
+use Rattle.texts.proofs.put_refusal.Tie as tie
 
 abbrev start : tie.After-put-word → tie.Start
 start w = w .before .before .before .before

@@ -1,11 +1,11 @@
--- `listing::put::put_number` meets its contract: the digits that the kit shows are the profile's. Assumes nothing.
+-- `texts::put_number` meets its contract: the digits that the kit shows are the profile's. Assumes nothing.
 use mathlib.Core.Path.{_≡_}
 use lib.ListN.{take}
-use Rattle.listing.specs.Written.{number}
-use Rattle.listing.proofs.Digits.{shown-number}
+use Rattle.texts.specs.Written.{number}
+use Rattle.texts.proofs.Digits.{shown-number}
 use borrow.Author.Needs.{needs}
-use Rattle.listing.proofs.put.put_number.Statement.{statement}
-use Rattle.listing.proofs.put.put_number.Tie as tie
+use Rattle.texts.proofs.put_number.Statement.{statement}
+use Rattle.texts.proofs.put_number.Tie as tie
 
 abbrev start : tie.After-decimal → tie.Start
 start m = m .before .before .before

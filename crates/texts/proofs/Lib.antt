@@ -1,0 +1,4 @@
+-- numbers
+pub mod Digits
+-- pieces, one after the other
+pub mod Writing
