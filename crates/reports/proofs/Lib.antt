@@ -1,0 +1,4 @@
+-- lines
+pub mod FindingLines
+-- the whole
+pub mod Whole
