@@ -2,8 +2,9 @@
 //! about it.
 
 use crate::archive;
-use crate::{CallError, Error, Listing, Reply, Request, Tally, TallyError, TurnError, Verdict};
-use crate::{REPLY_ROOM, SLOT_BYTES};
+use crate::{CallError, Error, Listing, Reply, Report, Request, Tally, Verdict};
+use crate::{SalvageError, TallyError, TurnError};
+use crate::{MOST_SLOTS, REPLY_ROOM, SLOT_BYTES};
 use std::fmt;
 
 /// A card, over a table that it owns (`Card`) or is lent
@@ -11,7 +12,8 @@ use std::fmt;
 ///
 /// A table is 1 to 15 slots of [`SLOT_BYTES`] bytes. A card may be made over any
 /// bytes: the agent looks at them at each call, and answers no request where
-/// the bytes are not a well-formed table.
+/// the bytes are not a well-formed table. Where a worn block has damaged some
+/// slots, a [salvage](Card::salvage) keeps the others.
 ///
 /// Beside its table a card has the table's [`tally`](Card::tally), which says how
 /// the card is filled. A card works it out when it is made, and each call brings
@@ -273,6 +275,90 @@ impl<T: AsRef<[u8]> + AsMut<[u8]>> Card<T> {
         TurnError::of(archive::turn(self.table.as_mut()))?;
         self.tally = Tally::of(self.table()).expect("a turned table is well formed");
         Ok(())
+    }
+
+    /// Salvages a damaged card: keeps every slot that is in order, and clears
+    /// every other, so that the agent answers requests again. The report says
+    /// what was found of each slot.
+    ///
+    /// A slot that is not well formed by itself is
+    /// [damaged](crate::Finding::Damaged), and is cleared. Then, where two or
+    /// more slots that are not empty have one handle, the lowest is kept; the
+    /// others are [repeated](crate::Finding::Repeated), and are cleared. A
+    /// cleared slot is all zeros, and no byte of any other slot changes.
+    ///
+    /// The table left is well formed, and the card has its tally, whatever it
+    /// had before. A second salvage clears nothing, nor does one of a card that
+    /// is not damaged.
+    ///
+    /// An old table with counts is [turned](Card::turn) first: a count without
+    /// its bit is damage to a salvage, and its right is lost.
+    ///
+    /// # Errors
+    ///
+    /// [`SalvageError::TableLength`] where the bytes are not 1 to 15 slots.
+    /// Neither a byte nor the tally is changed then.
+    ///
+    /// ```
+    /// use cavernlull::{Card, Finding, Handle, Request, Verdict, SLOT_BYTES};
+    ///
+    /// let mut card = Card::blank(3);
+    /// for n in [1, 2] {
+    ///     let setup = Request::InstallationSetup { handle: Handle([n; 10]), room: 300 };
+    ///     card.call(&setup, Verdict::Held)?;
+    /// }
+    ///
+    /// // A worn block sets a bit in slot 0. The agent refuses the whole card.
+    /// let mut image = card.into_table();
+    /// image[191] ^= 1;
+    /// let mut card = Card::from(image);
+    /// let give_up = Request::HandleRemoval { handle: Handle([2; 10]) };
+    /// assert!(card.call(&give_up, Verdict::Held).is_err());
+    ///
+    /// let report = card.salvage()?;
+    /// assert_eq!(report.cleared(), 1);
+    /// assert_eq!(report.findings(), [Finding::Damaged, Finding::Kept, Finding::Kept]);
+    /// assert!(card.table()[..SLOT_BYTES].iter().all(|byte| *byte == 0));
+    /// assert_eq!((card.tally().empty, card.tally().reserved), (2, 1));
+    /// card.call(&give_up, Verdict::Held)?;
+    /// # Ok::<(), Box<dyn std::error::Error>>(())
+    /// ```
+    pub fn salvage(&mut self) -> Result<Report, SalvageError> {
+        let mut bytes = [0; MOST_SLOTS];
+        self.salvage_into(&mut bytes)?;
+        Ok(Report::read(&bytes[..self.table().len() / SLOT_BYTES]))
+    }
+
+    /// Salvages a damaged card as [`salvage`](Card::salvage) does, and writes
+    /// the report as bytes: byte *i* of the buffer becomes the
+    /// [number](crate::Finding::number) of what was found of slot *i*. The
+    /// bytes after that of the last slot keep what they held. Gives how many
+    /// slots were cleared.
+    ///
+    /// This is for one who hands the report on as it is. [`MOST_SLOTS`] bytes
+    /// are enough for every card.
+    ///
+    /// # Errors
+    ///
+    /// Where the bytes are not 1 to 15 slots, or the buffer has fewer bytes than
+    /// there are slots. Neither table, nor tally, nor buffer is changed then.
+    ///
+    /// ```
+    /// use cavernlull::{Card, SalvageError, SLOT_BYTES};
+    ///
+    /// let mut image = vec![0; 2 * SLOT_BYTES];
+    /// image[SLOT_BYTES + 191] = 1;
+    /// let mut card = Card::from(image);
+    /// let mut report = [0xEE; 4];
+    /// let short = card.salvage_into(&mut report[..1]);
+    /// assert_eq!(short, Err(SalvageError::ReportBufferShort));
+    /// assert_eq!(card.salvage_into(&mut report), Ok(1));
+    /// assert_eq!(report, [0, 1, 0xEE, 0xEE]);
+    /// ```
+    pub fn salvage_into(&mut self, report: &mut [u8]) -> Result<usize, SalvageError> {
+        let cleared = SalvageError::of(archive::salvage(self.table.as_mut(), report))?;
+        self.tally = Tally::of(self.table()).expect("a salvaged table is well formed");
+        Ok(cleared)
     }
 
     /// The table.

@@ -1,5 +1,5 @@
-//! What the agent, the request writer, the reply reader, the turning and the
-//! working out of a tally refuse.
+//! What the agent, the request writer, the reply reader, the turning, the
+//! working out of a tally and the salvage refuse.
 //!
 //! A refusal leaves all lent memory as it was.
 
@@ -21,7 +21,8 @@ pub enum CallError {
     TableLength,
     /// 103: a slot is not well formed, or two records have the same handle. An
     /// old table is not well formed where it has counts, until it is
-    /// [turned](crate::Card::turn).
+    /// [turned](crate::Card::turn). What is in order on a damaged card is kept by
+    /// a [salvage](crate::Card::salvage).
     TableNotWellFormed,
     /// 104: the frame has fewer than 4 bytes, or is not 4 bytes and its body
     /// length long.
@@ -99,7 +100,22 @@ pub enum TallyError {
     TableNotWellFormed,
 }
 
-/// Any of these errors, for functions that can meet several.
+/// A table was not salvaged: it is as it was, and so is the report buffer.
+#[derive(Clone, Copy, Debug, PartialEq, Eq, Hash)]
+pub enum SalvageError {
+    /// 102: the table is not 1 to 15 slots of 4,288 bytes.
+    TableLength,
+    /// 107: the report buffer has fewer bytes than the table has slots. It is
+    /// looked at after the table's length.
+    ///
+    /// Only [`salvage_into`](crate::Card::salvage_into), which is lent a buffer,
+    /// is refused so.
+    ReportBufferShort,
+}
+
+/// Any of these errors but [`SalvageError`], for functions that can meet
+/// several. That one came in a minor version, and a `match` on this type stays
+/// complete.
 #[derive(Clone, Copy, Debug, PartialEq, Eq, Hash)]
 pub enum Error {
     /// The request cannot be written.
@@ -230,6 +246,27 @@ impl TallyError {
     }
 }
 
+impl SalvageError {
+    /// The number that the archive gives for this error, 102 or 107.
+    pub const fn number(self) -> u16 {
+        match self {
+            SalvageError::TableLength => 102,
+            SalvageError::ReportBufferShort => 107,
+        }
+    }
+
+    /// What a number from the archive means: 0 to 15 is how many slots were
+    /// cleared.
+    pub(crate) fn of(number: u16) -> Result<usize, SalvageError> {
+        Err(match number {
+            0..=15 => return Ok(number.into()),
+            102 => SalvageError::TableLength,
+            107 => SalvageError::ReportBufferShort,
+            _ => unknown(number),
+        })
+    }
+}
+
 /// The archive is proved to give no number but those above.
 fn unknown(number: u16) -> ! {
     panic!("the archive gave {number}, which it never does: is it another version's?")
@@ -298,6 +335,17 @@ impl fmt::Display for TallyError {
     }
 }
 
+impl fmt::Display for SalvageError {
+    fn fmt(&self, f: &mut fmt::Formatter<'_>) -> fmt::Result {
+        match self {
+            SalvageError::TableLength => CallError::TableLength.fmt(f),
+            SalvageError::ReportBufferShort => {
+                f.write_str("the report buffer has fewer bytes than the table has slots")
+            }
+        }
+    }
+}
+
 impl fmt::Display for Error {
     fn fmt(&self, f: &mut fmt::Formatter<'_>) -> fmt::Result {
         match self {
@@ -319,6 +367,8 @@ impl error::Error for ReadError {}
 impl error::Error for TurnError {}
 
 impl error::Error for TallyError {}
+
+impl error::Error for SalvageError {}
 
 impl error::Error for Error {}
 

@@ -3,9 +3,9 @@
 //! A shop loads training courses onto cards as rights; the agent in the card
 //! keeps them in a table of slots, lends them, takes them back and removes
 //! them, by request frames. The agent, the request writer, the reply reader, the
-//! listing, the tally and the turning of old tables are proved code in an
-//! archive, `libcavernlull.a`; this crate gives them the types that Rust expects
-//! and adds nothing to what they do.
+//! listing, the tally, the turning of old tables and the salvage of damaged ones
+//! are proved code in an archive, `libcavernlull.a`; this crate gives them the
+//! types that Rust expects and adds nothing to what they do.
 //!
 //! | | |
 //! |---|---|
@@ -15,8 +15,9 @@
 //! | [`Reply`] | what the card answered, read from the frame of a reply |
 //! | [`Listing`] | what is in the slots, as text |
 //! | [`Tally`] | how a table is filled: the slots of each place, and the payload bytes |
+//! | [`Report`] | what a [salvage](Card::salvage) of a damaged card found of each slot, as a [`Finding`] |
 //! | [`Right`] | what a right holds: [`Key`], count, [hashes](AssetHash), payload |
-//! | [`CallError`], [`WriteError`], [`ReadError`], [`TurnError`], [`TallyError`] | what the agent, the writer, the reader, the turning and the tally refuse |
+//! | [`CallError`], [`WriteError`], [`ReadError`], [`TurnError`], [`TallyError`], [`SalvageError`] | what the agent, the writer, the reader, the turning, the tally and the salvage refuse |
 //!
 //! # Example
 //!
@@ -88,6 +89,7 @@ mod error;
 mod kind;
 mod listing;
 mod reply;
+mod report;
 mod request;
 mod right;
 mod rotation;
@@ -96,10 +98,11 @@ mod tally;
 mod verdict;
 
 pub use card::Card;
-pub use error::{CallError, Error, ReadError, TallyError, TurnError, WriteError};
+pub use error::{CallError, Error, ReadError, SalvageError, TallyError, TurnError, WriteError};
 pub use kind::Kind;
 pub use listing::Listing;
 pub use reply::Reply;
+pub use report::{Finding, Report};
 pub use request::Request;
 pub use right::{AssetHash, Handle, Key, Right};
 pub use rotation::Rotation;

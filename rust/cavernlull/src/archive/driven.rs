@@ -136,3 +136,17 @@ pub(crate) fn turn(table: &mut [u8]) -> u16 {
     table.copy_from_slice(&given.table);
     given.number
 }
+
+/// `cavernlull_salvage`.
+pub(crate) fn salvage(table: &mut [u8], report: &mut [u8]) -> u16 {
+    let given = ask(
+        |commands| {
+            commands.table(table)?;
+            commands.salvage(report)
+        },
+        Answers::salvaged,
+    );
+    table.copy_from_slice(&given.table);
+    report.copy_from_slice(&given.report);
+    given.number
+}

@@ -4,12 +4,12 @@
 #[cfg(target_arch = "x86_64")]
 mod sys;
 #[cfg(target_arch = "x86_64")]
-pub(crate) use sys::{call, list, read_reply, tally, turn, write_request};
+pub(crate) use sys::{call, list, read_reply, salvage, tally, turn, write_request};
 
 #[cfg(not(target_arch = "x86_64"))]
 mod driven;
 #[cfg(not(target_arch = "x86_64"))]
-pub(crate) use driven::{call, list, read_reply, tally, turn, write_request};
+pub(crate) use driven::{call, list, read_reply, salvage, tally, turn, write_request};
 
 use crate::{HANDLE_BYTES, KEY_BYTES};
 

@@ -52,6 +52,13 @@ extern "C" {
     fn cavernlull_turn(table: *mut u8, table_length: usize) -> u16;
 
     fn cavernlull_tally(table: *const u8, table_length: usize, tally: *mut Tally) -> u16;
+
+    fn cavernlull_salvage(
+        table: *mut u8,
+        table_length: usize,
+        report: *mut u8,
+        report_length: usize,
+    ) -> u16;
 }
 
 /// `cavernlull_call`.
@@ -141,4 +148,18 @@ pub(crate) fn tally(table: &[u8], tally: &mut Tally) -> u16 {
     // has the layout of the header's structure, and is borrowed to be changed,
     // so it does not overlap the table.
     unsafe { cavernlull_tally(table.as_ptr(), table.len(), tally) }
+}
+
+/// `cavernlull_salvage`.
+pub(crate) fn salvage(table: &mut [u8], report: &mut [u8]) -> u16 {
+    // SAFETY: the pointers are those of slices, with their lengths; both are
+    // borrowed to be changed, so they do not overlap.
+    unsafe {
+        cavernlull_salvage(
+            table.as_mut_ptr(),
+            table.len(),
+            report.as_mut_ptr(),
+            report.len(),
+        )
+    }
 }
