@@ -90,9 +90,28 @@ fn errors_are_those_of_the_header() {
             "TABLE_NOT_WELL_FORMED",
             TallyError::TableNotWellFormed.number(),
         ),
+        ("TABLE_LENGTH", SalvageError::TableLength.number()),
+        (
+            "REPORT_BUFFER_SHORT",
+            SalvageError::ReportBufferShort.number(),
+        ),
     ] {
         assert_eq!(constants.get(name), Some(&number.into()), "{name}");
     }
+}
+
+/// What a salvage finds of a slot has the same word in a report and in the
+/// header.
+#[test]
+fn findings_are_those_of_the_header() {
+    let constants = constants();
+    for finding in Finding::ALL {
+        let name = format!("SLOT_{}", in_c(finding));
+        let number = constants.get(name.as_str());
+        assert_eq!(number, Some(&finding.number().into()), "{name}");
+        assert_eq!(Finding::from_number(finding.number()), Some(finding));
+    }
+    assert_eq!(Finding::from_number(3), None);
 }
 
 /// The numbers of a tally have the names and the order that the header gives
