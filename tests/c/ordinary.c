@@ -1,8 +1,8 @@
 /* An ordinary C program that links libcavernlull.a, as a front end or a device does: one course on its way through a card of
  * two slots. It is set up, installed, listed, lent, refused a second time and under a handle in use, returned and removed. Then
  * it is set up with other starts, and in one slot after the other; it has a count of 1, which is used up and stays so; it is
- * refused without a hash, and used where a card holds it so; and it is on an old card, whose table is turned. The card's tally is
- * kept beside its table, and lent with each call.
+ * refused without a hash, and used where a card holds it so; it is on an old card, whose table is turned, and on a damaged one,
+ * which is salvaged. The card's tally is kept beside its table, and lent with each call.
  *
  * Each step is checked against what the header promises: the number, every byte of the reply buffer, every byte of the table,
  * the five numbers of the tally, what the reply reader reads in the reply, and the listing. The expected bytes and numbers are
@@ -586,6 +586,111 @@ static void tallies_differ(void) {
     tallied(2, 0, 0, 0, 0);
 }
 
+/* ---- a damaged table (PROFILE 2.10); before and afterwards the card is empty */
+/* The salvage gives this number, and leaves the table and all of the report buffer as they were. */
+static void salvage_refused(uint16_t number, size_t table_length, size_t report_length) {
+    uint8_t report[CAVERNLULL_MOST_SLOTS];
+    memset(report, FILLER, sizeof report);
+    CHECK(cavernlull_salvage(table, table_length, report, report_length) == number);
+    CHECK(filled(report, sizeof report, FILLER));
+    CHECK(memcmp(table, expected, sizeof table) == 0);
+}
+
+/* The salvage finds this of the two slots, clears those that are not kept, and leaves the rest of the report buffer. */
+static void salvage_finds(uint8_t first, uint8_t second, size_t report_length) {
+    uint8_t report[CAVERNLULL_MOST_SLOTS], found[SLOTS] = {first, second};
+    uint16_t cleared = (first != CAVERNLULL_SLOT_KEPT) + (second != CAVERNLULL_SLOT_KEPT);
+    memset(report, FILLER, sizeof report);
+    CHECK(cavernlull_salvage(table, sizeof table, report, report_length) == cleared);
+    CHECK(memcmp(report, found, SLOTS) == 0);
+    CHECK(filled(report + SLOTS, sizeof report - SLOTS, FILLER));
+    if (first != CAVERNLULL_SLOT_KEPT) memset(expected, 0, CAVERNLULL_SLOT_BYTES);
+    if (second != CAVERNLULL_SLOT_KEPT) memset(expected + CAVERNLULL_SLOT_BYTES, 0, CAVERNLULL_SLOT_BYTES);
+    CHECK(memcmp(table, expected, sizeof table) == 0);
+}
+
+/* A course in slot 0, and a reservation under `handle` in slot 1. In each slot byte 191 is 0, or makes it damaged. */
+static void put_worn(uint8_t first, const uint8_t *handle, uint8_t second) {
+    put_right(ENABLED, course, kept(9));
+    put_reserved(1, handle, 300);
+    expected[PAYLOAD_AT - 1] = first;
+    expected[CAVERNLULL_SLOT_BYTES + PAYLOAD_AT - 1] = second;
+    memcpy(table, expected, sizeof table);
+}
+
+/* What is found of the slots, with a buffer as long as it must be and with a longer one. A second run finds nothing. */
+static void finds(void) {
+    put_worn(0, other, 0);
+    salvage_finds(CAVERNLULL_SLOT_KEPT, CAVERNLULL_SLOT_KEPT, SLOTS);
+    put_worn(1, other, 0);
+    salvage_finds(CAVERNLULL_SLOT_DAMAGED, CAVERNLULL_SLOT_KEPT, SLOTS);
+    put_worn(1, other, 1);
+    salvage_finds(CAVERNLULL_SLOT_DAMAGED, CAVERNLULL_SLOT_DAMAGED, SLOTS + 1);
+    put_worn(0, course, 0); /* two records under one handle: the lower is kept */
+    salvage_finds(CAVERNLULL_SLOT_KEPT, CAVERNLULL_SLOT_REPEATED, CAVERNLULL_MOST_SLOTS);
+    put_worn(0, course, 1);
+    salvage_finds(CAVERNLULL_SLOT_KEPT, CAVERNLULL_SLOT_DAMAGED, CAVERNLULL_MOST_SLOTS);
+    salvage_finds(CAVERNLULL_SLOT_KEPT, CAVERNLULL_SLOT_KEPT, CAVERNLULL_MOST_SLOTS);
+    put_worn(1, course, 0); /* a damaged slot makes no other a repeated one */
+    salvage_finds(CAVERNLULL_SLOT_DAMAGED, CAVERNLULL_SLOT_KEPT, CAVERNLULL_MOST_SLOTS);
+    salvage_finds(CAVERNLULL_SLOT_KEPT, CAVERNLULL_SLOT_KEPT, CAVERNLULL_MOST_SLOTS);
+    listed("0 empty 0 0 0\n1 reserved 0 0 300\n");
+    put_worn(0, other, 1);
+    put_old_right(ENABLED, course); /* a right without a hash is in order */
+    memcpy(table, expected, sizeof table);
+    salvage_finds(CAVERNLULL_SLOT_KEPT, CAVERNLULL_SLOT_DAMAGED, SLOTS);
+}
+
+/* 102 is tested before 107. */
+static void salvage_refusals(void) {
+    put_worn(1, other, 1);
+    for (size_t report_length = 0; report_length <= CAVERNLULL_MOST_SLOTS; report_length++) {
+        salvage_refused(CAVERNLULL_TABLE_LENGTH, 0, report_length);
+        salvage_refused(CAVERNLULL_TABLE_LENGTH, TABLE_BYTES - 1, report_length);
+    }
+    for (size_t report_length = 0; report_length < SLOTS; report_length++)
+        salvage_refused(CAVERNLULL_REPORT_BUFFER_SHORT, TABLE_BYTES, report_length);
+}
+
+/* The course in slot 0 is lent and returned, another is installed in slot 1, which was cleared, and both are removed. */
+static void uses_what_is_left(void) {
+    write_plain(CAVERNLULL_REK_QUERY, course, borrower, 0);
+    put_right(DISABLED, borrower, kept(9));
+    call(CAVERNLULL_SUCCESS, key, sizeof key);
+    write_return(borrower, kept(8));
+    put_right(ENABLED, borrower, kept(8));
+    done();
+    write_plain(CAVERNLULL_INSTALLATION_SETUP, other, none, 300);
+    put_reserved(1, other, 300);
+    done();
+    write_installation(other, kept(9));
+    put_slot(1, ENABLED, other, kept(9), sizeof payload);
+    done();
+    tallied(0, 0, 2, 0, 14);
+    write_plain(CAVERNLULL_RIGHTS_REMOVAL, other, none, 0);
+    memset(expected + CAVERNLULL_SLOT_BYTES, 0, CAVERNLULL_SLOT_BYTES);
+    done();
+    write_plain(CAVERNLULL_RIGHTS_REMOVAL, borrower, none, 0);
+    memset(expected, 0, sizeof expected);
+    done();
+    tallied(2, 0, 0, 0, 0);
+}
+
+/* The card is refused, salvaged and used again. The tally from before is not that of the table left. */
+static void salvages(void) {
+    salvage_refusals();
+    finds();
+    put_worn(0, other, 1);
+    tally = (struct cavernlull_tally){0, 1, 1, 0, 7};
+    write_list(0);
+    call_refused(CAVERNLULL_TABLE_NOT_WELL_FORMED, TABLE_BYTES, length_of(frame), CAVERNLULL_REPLY_ROOM);
+    salvage_finds(CAVERNLULL_SLOT_KEPT, CAVERNLULL_SLOT_DAMAGED, CAVERNLULL_MOST_SLOTS);
+    call_refused(CAVERNLULL_TALLY_DIFFERS, TABLE_BYTES, length_of(frame), CAVERNLULL_REPLY_ROOM);
+    CHECK(cavernlull_tally(table, sizeof table, &tally) == CAVERNLULL_DONE);
+    tallied(1, 0, 1, 0, 7);
+    uses_what_is_left();
+}
+
 static void call_refusals(void) {
     write_plain(CAVERNLULL_INSTALLATION_SETUP, course, none, 5);
     call_refused(CAVERNLULL_REPLY_BUFFER_SHORT, 1, 3, CAVERNLULL_REPLY_ROOM - 1);
@@ -672,6 +777,7 @@ int main(void) {
     turns();
     tally_refusals();
     tallies_differ();
+    salvages();
     call_refusals();
     start_refusals();
     writer_refusals();
