@@ -1,10 +1,10 @@
 /* A coverage-guided fuzz target for the exported functions. An input is a program: the length of the table and whether it holds
  * rights without a hash, and then what is done with it: requests of every kind and frames of any bytes, each with a tally and
- * from a start, changes to the table, turnings, and tallies worked out. After each call the number, the reply buffer, the table
- * and the tally must be those of the agent in C (counterparts/c/agent.c), and so must a tally that is worked out; after each
- * turning, number and table must be those of the turning below; every request that is written must have the kind and the count's
- * bit asked for, and the verdict 1; no installation may be written without a hash; and every reply must be one that the reply
- * reader takes.
+ * from a start, changes to the table, turnings, salvages, and tallies worked out. After each call the number, the reply buffer, the
+ * table and the tally must be those of the agent in C (counterparts/c/agent.c), and so must a tally that is worked out, and number,
+ * report buffer and table of a salvage; a table that was salvaged must have a tally, and nothing to clear; after each turning, number
+ * and table must be those of the turning below; every request that is written must have the kind and the count's bit asked for, and
+ * the verdict 1; no installation may be written without a hash; and every reply must be one that the reply reader takes.
  *
  * All memory is lent in allocations of exactly its length, so that the address sanitiser sees any access outside it.
  */
@@ -16,6 +16,7 @@
 
 uint16_t c_agent(uint8_t *, size_t, struct cavernlull_tally *, size_t, const uint8_t *, size_t, uint8_t *, size_t);
 uint16_t c_agent_tally(const uint8_t *, size_t, struct cavernlull_tally *);
+uint16_t c_agent_salvage(uint8_t *, size_t, uint8_t *, size_t);
 
 enum { SLOT = CAVERNLULL_SLOT_BYTES, HANDLE = CAVERNLULL_HANDLE_BYTES, HASH = CAVERNLULL_HASH_BYTES };
 
@@ -82,8 +83,9 @@ static struct cavernlull_tally take_tally(struct input *in, const struct tables 
     return tally;
 }
 
-/* Works the tally out, which is kept from then on; where there is none, the five numbers are still what they were. */
-static void work_out(struct tables *t) {
+/* Works the tally out, which is kept from then on; where there is none, the five numbers are still what they were. Gives the
+ * number. */
+static uint16_t work_out(struct tables *t) {
     struct cavernlull_tally *ours = lent_tally(&t->tally), *theirs = lent_tally(&t->tally);
     uint16_t number = cavernlull_tally(t->ours, t->length, ours);
     if (number != c_agent_tally(t->theirs, t->length, theirs)) abort();
@@ -93,6 +95,7 @@ static void work_out(struct tables *t) {
     t->tally = *ours;
     free(ours);
     free(theirs);
+    return number;
 }
 
 /* ---- calls */
@@ -287,6 +290,34 @@ static void turn(struct input *in, struct tables *t) {
     same(t->ours, t->theirs, t->length);
 }
 
+/* Salvages both tables, and gives the number. */
+static uint16_t salvaged(struct tables *t, size_t room) {
+    uint8_t *ours = lent(room, 0xa5), *theirs = lent(room, 0xa5);
+    uint16_t number = cavernlull_salvage(t->ours, t->length, ours, room);
+    if (number != c_agent_salvage(t->theirs, t->length, theirs, room)) abort();
+    same(ours, theirs, room);
+    same(t->ours, t->theirs, t->length);
+    free(ours);
+    free(theirs);
+    return number;
+}
+
+/* Puts bytes of the input over those of the table, from any offset on. */
+static void wear(struct input *in, struct tables *t) {
+    size_t at = take(in) % 16 * SLOT + take_length(in) % SLOT, length = take(in);
+    for (; length > 0 && at < t->length; length--, at++) t->ours[at] = t->theirs[at] = take(in);
+}
+
+/* With a report buffer of a byte for each slot or some more, as a rule, else of any length that a table could ask for. What is left
+ * is well formed, and a second salvage clears nothing of it. */
+static void salvage(struct input *in, struct tables *t) {
+    uint8_t how = take(in);
+    if (how & 1) wear(in, t);
+    size_t room = how < 224 ? t->length / SLOT + (how >> 1 & 3) : how >> 1 & 15;
+    if (salvaged(t, room) > CAVERNLULL_MOST_SLOTS) return;
+    if (salvaged(t, room) != 0 || work_out(t) != 0) abort();
+}
+
 static void list(struct tables *t) {
     uint8_t *out = lent(CAVERNLULL_LISTING_ROOM, 0xa5);
     size_t length = cavernlull_list(t->ours, t->length, out);
@@ -329,7 +360,7 @@ int LLVMFuzzerTestOneInput(const uint8_t *bytes, size_t length) {
     struct tables t = {lent(size, 0), lent(size, 0), size, {(uint16_t)(size / SLOT), 0, 0, 0, 0}};
     if (slots >> 4 >= 12) put_old_rights(&t);
     for (unsigned steps = 0; in.left > 0 && steps < 64; steps++) {
-        uint8_t what = take(&in) & 15;
+        uint8_t what = take(&in) % 17;
         if (what >= 1 && what <= 9) request(&in, &t, what);
         else if (what == 10) change(&in, &t);
         else if (what == 11) list(&t);
@@ -337,6 +368,7 @@ int LLVMFuzzerTestOneInput(const uint8_t *bytes, size_t length) {
         else if (what == 13) whole_input(&in, &t, bytes, length);
         else if (what == 14) turn(&in, &t);
         else if (what == 15) work_out(&t);
+        else if (what == 16) salvage(&in, &t);
         else any_frame(&in, &t);
     }
     free(t.ours);

@@ -2,8 +2,8 @@
  * memcmp for handles and hashes, memcpy and memset for the rest. It is the bench's yardstick, and what the fuzz target
  * compares the proved agent with. Nothing about it is proved.
  *
- * It is compiled once for each compiler and optimisation level. AGENT names the call; the function that works a tally out
- * has the same name with _tally after it.
+ * It is compiled once for each compiler and optimisation level. AGENT names the call; the functions that work a tally out and
+ * salvage a table have the same name with _tally and _salvage after it.
  */
 #include "cavernlull.h" /* for the tally; nothing else of it is used */
 
@@ -291,7 +291,16 @@ static unsigned serve(struct call *c, unsigned kind) {
     }
 }
 
-/* ---- the two functions */
+/* ---- salvages (PROFILE 2.10) */
+enum { IN_ORDER, DAMAGED, REPEATED };
+
+/* What is found of slot `s`, where those below it, from `table` on, have been salvaged: a damaged one among them is empty by now. */
+static uint8_t found(const uint8_t *table, const uint8_t *s) {
+    if (!well_slot(s)) return DAMAGED;
+    return place_of(s) != EMPTY && find(table, s, s + AT_HANDLE) < s ? REPEATED : IN_ORDER;
+}
+
+/* ---- the three functions */
 static bool whole_slots(size_t size) { return size != 0 && size % SLOT == 0 && size <= SLOTS * SLOT; }
 
 uint16_t AGENT(uint8_t *table, size_t size, struct cavernlull_tally *tally, size_t start, const uint8_t *frame, size_t n,
@@ -316,4 +325,17 @@ uint16_t NAMED_AFTER(AGENT, _tally)(const uint8_t *table, size_t size, struct ca
     if (!count_well(table, table + size, &fresh) || !distinct(table, table + size)) return 103;
     *tally = fresh;
     return 0;
+}
+
+uint16_t NAMED_AFTER(AGENT, _salvage)(uint8_t *table, size_t size, uint8_t *report, size_t room) {
+    if (!whole_slots(size)) return 102;
+    if (room < size / SLOT) return 107;
+    uint16_t cleared = 0;
+    for (uint8_t *s = table; s < table + size; s += SLOT, report++) {
+        *report = found(table, s);
+        if (*report == IN_ORDER) continue;
+        memset(s, 0, SLOT);
+        cleared++;
+    }
+    return cleared;
 }
