@@ -308,12 +308,13 @@ static void wear(struct input *in, struct tables *t) {
     for (; length > 0 && at < t->length; length--, at++) t->ours[at] = t->theirs[at] = take(in);
 }
 
-/* With a report buffer of a byte for each slot or some more, as a rule, else of any length that a table could ask for. What is left
- * is well formed, and a second salvage clears nothing of it. */
+/* Damages the table, or not, and salvages it, with a report buffer of a byte for each slot or some more, as a rule, else of any
+ * length that a table could ask for. What is left is well formed, and a second salvage clears nothing of it. */
 static void salvage(struct input *in, struct tables *t) {
-    uint8_t how = take(in);
+    uint8_t how = take(in), slots = take(in);
     if (how & 1) wear(in, t);
-    size_t room = how < 224 ? t->length / SLOT + (how >> 1 & 3) : how >> 1 & 15;
+    if (how & 2) copy_handle(t, slots >> 4, slots & 15);
+    size_t room = how < 224 ? t->length / SLOT + (how >> 2 & 3) : how >> 2 & 15;
     if (salvaged(t, room) > CAVERNLULL_MOST_SLOTS) return;
     if (salvaged(t, room) != 0 || work_out(t) != 0) abort();
 }
