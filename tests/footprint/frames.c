@@ -24,8 +24,6 @@ void two_frames(int deeper) {
     outside(bytes);
 }
 
-/* The call by its name alone, with a frame that the test chooses. */
-void cavernlull_call(void) {
-    unsigned char bytes[CALL_FRAME];
-    outside(bytes);
-}
+/* The call and the salvage by their names alone, with frames that the test chooses. */
+FRAME(cavernlull_call, CALL_FRAME)
+FRAME(cavernlull_salvage, SALVAGE_FRAME)
