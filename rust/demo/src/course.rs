@@ -10,6 +10,9 @@ pub struct Step {
     pub request: Request,
     /// Where the writer refuses the request: bytes that are sent all the same.
     pub bytes: Option<Vec<u8>>,
+    /// A slot that a worn block damages before the request. The card is salvaged
+    /// then, and the request sent again.
+    pub worn: Option<usize>,
     /// The status of the reply.
     pub expected: Status,
     /// Why the card gives this answer.
@@ -36,6 +39,7 @@ fn step(title: &'static str, request: Request, expected: Status, why: &'static s
         title,
         request,
         bytes: None,
+        worn: None,
         expected,
         why,
     }
@@ -55,14 +59,15 @@ fn right(uses: u16, text: &str) -> Right {
     }
 }
 
-/// A course comes onto the card, is lent and returned, and goes; so does one
-/// whose uses run out.
+/// A course comes onto the card, is lent and returned, and goes. One whose uses
+/// run out is lost with a worn block, and another is not.
 pub fn steps() -> Vec<Step> {
     let mut steps = loading();
     steps.extend(loading_another());
     steps.extend(lending());
     steps.extend(using_up());
     steps.extend(removing());
+    steps.extend(salvaging());
     steps
 }
 
@@ -150,10 +155,13 @@ fn using_up() -> Vec<Step> {
     ]
 }
 
-/// All courses are removed. Room for one more is not in the slot that the first
-/// one leaves, but in the one after the last that was taken.
+fn remove(handle: Handle) -> Request {
+    Request::RightsRemoval { handle }
+}
+
+/// The first course is removed. Room for one more is not in the slot that it
+/// leaves, but in the one after the last that was taken.
 fn removing() -> Vec<Step> {
-    let remove = |handle| Request::RightsRemoval { handle };
     let give_up = Request::HandleRemoval { handle: NEXT };
     vec![
         step(
@@ -174,17 +182,28 @@ fn removing() -> Vec<Step> {
             Status::Success,
             "The slot is empty again.",
         ),
+    ]
+}
+
+/// A worn block damages the slot of the course that is used up. The other course
+/// is lent all the same, and removed.
+fn salvaging() -> Vec<Step> {
+    let lending = step(
+        "The other course is lent, but a block of the card is worn",
+        lend(OTHER, LENT),
+        Status::Success,
+        "One damaged slot, and the whole card is refused. The salvage clears that slot and no other: the course is lent.",
+    );
+    vec![
+        Step {
+            worn: Some(2),
+            ..lending
+        },
         step(
-            "The course that is used up is removed",
-            remove(SECOND_LENT),
+            "It is removed",
+            remove(LENT),
             Status::Success,
-            "A course can be removed also while it is lent.",
-        ),
-        step(
-            "So is the other",
-            remove(OTHER),
-            Status::Success,
-            "The card is blank again.",
+            "A course can be removed also while it is lent. The card is blank again.",
         ),
     ]
 }

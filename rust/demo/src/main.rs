@@ -7,12 +7,16 @@ mod course;
 mod screen;
 
 use cavernlull::{Card, Error, Handle, Reply, Request, Rotation, Status};
+use cavernlull::{REPLY_ROOM, SLOT_BYTES};
 use course::Step;
 use screen::Screen;
 use std::io::{self, IsTerminal, Write};
 
 /// How many slots the card has.
 const SLOTS: usize = 4;
+
+/// A byte of a slot that is always 0 (PROFILE 2.2).
+const ALWAYS_ZERO: usize = 191;
 
 fn main() -> io::Result<()> {
     let screen = Screen::new(io::stdout().is_terminal());
@@ -42,13 +46,17 @@ fn shown(
     let mut text = String::new();
     let frame = match (step.request.to_frame(), &step.bytes) {
         (Err(refused), Some(bytes)) => {
-            text += &screen.writer(refused);
+            text += &screen.refusal("writer", refused.number(), &refused);
             bytes.clone()
         }
         (written, _) => written?,
     };
     text += &screen.frame("request", &frame, &asked(&step.request, rotation.start()));
-    let mut buffer = [0; cavernlull::REPLY_ROOM];
+    if let Some(slot) = step.worn {
+        text += &worn(screen, card, slot);
+        text += &salvaged(screen, card, &frame);
+    }
+    let mut buffer = [0; REPLY_ROOM];
     let answer = rotation.call_frame(card, &frame, &mut buffer)?;
     let reply = Reply::read(answer)?;
     assert_eq!(reply.status(), step.expected, "{}", step.title);
@@ -56,6 +64,23 @@ fn shown(
     text += &screen.note(step.why);
     text += &screen.card(card);
     Ok(text)
+}
+
+/// A worn block changes a byte of a slot.
+fn worn(screen: &Screen, card: &mut Card, slot: usize) -> String {
+    let mut image = card.clone().into_table();
+    image[slot * SLOT_BYTES + ALWAYS_ZERO] = 1;
+    *card = Card::from(image);
+    screen.worn(slot, ALWAYS_ZERO)
+}
+
+/// The damaged card refuses the request, and is salvaged.
+fn salvaged(screen: &Screen, card: &mut Card, frame: &[u8]) -> String {
+    let mut buffer = [0; REPLY_ROOM];
+    let refused = card.call_frame(frame, &mut buffer);
+    let refused = refused.expect_err("a damaged card answers nothing");
+    let report = card.salvage().expect("the card has whole slots");
+    screen.refusal("agent ", refused.number(), &refused) + &screen.report(&report)
 }
 
 /// A handle as the desk knows it: in this walk, as letters.
@@ -178,6 +203,24 @@ mod tests {
         assert!(with.contains("0 enabled 1 10 17\n"), "{with}");
         assert!(found.contains("Success, with 1 handle: BRAZING-01\n"));
         assert_eq!(text.matches("202").count(), 1);
+    }
+
+    /// The card is refused for its worn slot, which the salvage clears and names.
+    /// The other course is lent as if nothing had been.
+    #[test]
+    fn a_worn_card_is_salvaged_and_the_other_course_is_lent() {
+        let text = walk(&Screen::new(false)).expect("it walks");
+        let step = text.split("a block of the card is worn\n").nth(1);
+        let step = step.expect("there is such a step");
+        assert!(step.contains("worn     byte 191 of slot 2"), "{step}");
+        assert!(step.contains("agent    103: the table is not well formed\n"));
+        assert!(step.contains("salvage  0 kept, 1 kept, 2 damaged, 3 kept, cleared 1\n"));
+        assert!(step.contains("Success, with the course's key\n"), "{step}");
+        assert!(
+            step.contains("1 disabled 1 10 17\n    2 empty 0 0 0\n"),
+            "{step}"
+        );
+        assert_eq!(text.matches("103").count(), 1);
     }
 
     /// The slot of the first course is empty, and the next course comes into the

@@ -1,7 +1,8 @@
 //! What is shown: hex with its meaning beside it, tallies and listings. Colour is
 //! for terminals alone.
 
-use cavernlull::{Card, Tally, WriteError};
+use cavernlull::{Card, Report, Tally};
+use std::fmt::Display;
 
 /// How many bytes of a frame are shown on one line.
 const LINE: usize = 20;
@@ -44,10 +45,23 @@ impl Screen {
         text
     }
 
-    /// What the writer refuses, with its number.
-    pub fn writer(&self, refused: WriteError) -> String {
-        let meaning = format!("{}: {refused}", refused.number());
-        format!("  writer   {}\n", self.paint("31", &meaning))
+    /// What the writer or the agent refuses, with its number.
+    pub fn refusal(&self, who: &str, number: u16, refused: &dyn Display) -> String {
+        let meaning = format!("{number}: {refused}");
+        format!("  {who}   {}\n", self.paint("31", &meaning))
+    }
+
+    /// A byte of a slot that has changed, and should be 0.
+    pub fn worn(&self, slot: usize, byte: usize) -> String {
+        let meaning = format!("byte {byte} of slot {slot} is no longer 00");
+        format!("  worn     {}\n", self.paint("31", &meaning))
+    }
+
+    /// The report of a salvage, in one line.
+    pub fn report(&self, report: &Report) -> String {
+        let text = report.to_string();
+        let lines: Vec<&str> = text.lines().collect();
+        format!("  salvage  {}\n", self.paint("1", &lines.join(", ")))
     }
 
     /// A reply: green where it is a success, else red.
