@@ -1,62 +1,26 @@
 //! The program `cardlist`, run on many tables and compared with the
 //! reference's listing. Each comparison covers every byte that it prints.
 
+mod running;
 mod tables;
 
-use std::io::{ErrorKind, Write};
-use std::process::{ChildStdin, Output, Stdio};
-use std::thread;
-use std::time::Duration;
-
-use programs::command;
 use random::Rng;
 use reference::{listing, Count, Place, SLOT_BYTES};
+use running::{printed_by, printed_in_pieces_by, Printed};
 use tables::{any_table, by_requests, empty, reserved, right, LARGEST};
 
-/// What the program prints for the input that `feed` writes.
-fn printed_of(feed: impl FnOnce(&mut ChildStdin) + Send + 'static) -> String {
-    let mut child = command("cardlist")
-        .stdin(Stdio::piped())
-        .stdout(Stdio::piped())
-        .stderr(Stdio::piped())
-        .spawn()
-        .expect("cardlist starts");
-    let mut input = child.stdin.take().expect("its input is a pipe");
-    let feeder = thread::spawn(move || feed(&mut input));
-    let Output {
-        status,
-        stdout,
-        stderr,
-    } = child.wait_with_output().expect("cardlist ends");
-    feeder.join().expect("its input was written");
-    let complaint = String::from_utf8_lossy(&stderr);
-    assert!(status.success(), "cardlist gave {status}: {complaint}");
-    assert_eq!(complaint, "");
-    String::from_utf8(stdout).expect("a listing is text")
-}
-
-/// Writes bytes to a program that may have stopped reading.
-fn write(input: &mut ChildStdin, bytes: &[u8]) {
-    if let Err(error) = input.write_all(bytes).and_then(|()| input.flush()) {
-        assert_eq!(error.kind(), ErrorKind::BrokenPipe, "{error}");
-    }
+/// The listing that the program printed. It prints nothing to standard error.
+fn listing_in(printed: Printed) -> String {
+    assert_eq!(printed.errors, "");
+    String::from_utf8(printed.out).expect("a listing is text")
 }
 
 fn printed(bytes: &[u8]) -> String {
-    let bytes = bytes.to_vec();
-    printed_of(move |input| write(input, &bytes))
+    listing_in(printed_by("cardlist", bytes))
 }
 
-/// What the program prints where its input comes in these pieces, with a
-/// pause after each.
 fn printed_in_pieces(pieces: &[&[u8]]) -> String {
-    let pieces: Vec<Vec<u8>> = pieces.iter().map(|piece| piece.to_vec()).collect();
-    printed_of(move |input| {
-        for piece in &pieces {
-            write(input, piece);
-            thread::sleep(Duration::from_millis(2));
-        }
-    })
+    listing_in(printed_in_pieces_by("cardlist", pieces))
 }
 
 fn expected(bytes: &[u8]) -> String {

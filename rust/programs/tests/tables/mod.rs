@@ -1,4 +1,4 @@
-//! Tables to be listed: made by calls of the agent, by hand, and at random.
+//! Tables for the programs: made by calls of the agent, by hand, and at random.
 
 use random::Rng;
 use reference::{call, write_request, Count, Place, Tally, WriterFields};
