@@ -21,9 +21,9 @@ extern "C" {
 
 /* The version of the library. */
 #define CAVERNLULL_VERSION_MAJOR 6
-#define CAVERNLULL_VERSION_MINOR 0
+#define CAVERNLULL_VERSION_MINOR 1
 #define CAVERNLULL_VERSION_PATCH 0
-#define CAVERNLULL_VERSION "6.0.0"
+#define CAVERNLULL_VERSION "6.1.0"
 
 /* Sizes in bytes, and the most slots and hashes (PROFILE 1.3). */
 enum {
