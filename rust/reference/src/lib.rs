@@ -18,6 +18,7 @@
 //! | [`table`], [`slot`] | well-formedness, and one accessor for each field | 2 |
 //! | [`turn`] | the turning of tables from before a count had its bit | 2.7 |
 //! | [`Tally`], [`tally()`] | how a table is filled, worked out from its slots | 2.8 |
+//! | [`salvage()`] | the salvage of damaged tables | 2.10 |
 //!
 //! # How it is built
 //!
@@ -69,6 +70,7 @@ mod listing;
 pub mod number;
 mod reply;
 mod request;
+mod salvage;
 pub mod slot;
 mod status;
 pub mod table;
@@ -81,6 +83,7 @@ pub use kind::Kind;
 pub use listing::listing;
 pub use reply::{read_reply, Reply, ReplyFields};
 pub use request::{read_request, write_request, Fields, ReadRequest, Request, WriterFields};
+pub use salvage::{salvage, Finding};
 pub use slot::{Place, SLOT_BYTES};
 pub use status::Status;
 pub use table::{well_formed, MAX_SLOTS};

@@ -1,7 +1,7 @@
 //! The numbers that functions give back.
 
 /// The call wrote a reply, the writer wrote a request, the table was turned, or
-/// its tally was worked out.
+/// its tally was worked out. Of a salvage it says that no slot was cleared.
 pub const DONE: u16 = 0;
 
 /// The reply buffer has fewer than 4,279 bytes (PROFILE 4.1).
@@ -22,6 +22,9 @@ pub const START_OUTSIDE: u16 = 105;
 
 /// The tally given is not that of the table (PROFILE 4.1).
 pub const TALLY_DIFFERS: u16 = 106;
+
+/// The report buffer has fewer bytes than the table has slots (PROFILE 2.10).
+pub const REPORT_BUFFER_SHORT: u16 = 107;
 
 /// The writer's buffer is shorter than the frame (PROFILE 6.2).
 pub const WRITER_BUFFER_SHORT: u16 = 201;

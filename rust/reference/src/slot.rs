@@ -251,7 +251,7 @@ pub(crate) fn enable(slot: &mut SlotBytes, count: Count) {
     set_count(slot, count);
 }
 
-/// Kinds 6 and 7: clears every byte of the slot.
+/// Kinds 6 and 7, and a salvage: clears every byte of the slot.
 pub(crate) fn clear(slot: &mut SlotBytes) {
     slot.fill(0);
 }

@@ -47,7 +47,7 @@ pub fn check_before_turning(table: &[u8]) -> Result<(), u16> {
 }
 
 /// 102 where the table is not 1 to 15 whole slots.
-fn check_length(table: &[u8]) -> Result<(), u16> {
+pub(crate) fn check_length(table: &[u8]) -> Result<(), u16> {
     let (slots, rest) = table.as_chunks::<SLOT_BYTES>();
     if !(1..=MAX_SLOTS).contains(&slots.len()) || !rest.is_empty() {
         return Err(TABLE_LENGTH);
