@@ -19,6 +19,7 @@
 //! | [`turn`] | the turning of tables from before a count had its bit | 2.7 |
 //! | [`Tally`], [`tally()`] | how a table is filled, worked out from its slots | 2.8 |
 //! | [`salvage()`] | the salvage of damaged tables | 2.10 |
+//! | [`salvage_text()`] | what the program `cardsalvage` prints of what it found | 2.11 |
 //!
 //! # How it is built
 //!
@@ -71,6 +72,7 @@ pub mod number;
 mod reply;
 mod request;
 mod salvage;
+mod salvage_text;
 pub mod slot;
 mod status;
 pub mod table;
@@ -84,6 +86,7 @@ pub use listing::listing;
 pub use reply::{read_reply, Reply, ReplyFields};
 pub use request::{read_request, write_request, Fields, ReadRequest, Request, WriterFields};
 pub use salvage::{salvage, Finding};
+pub use salvage_text::salvage_text;
 pub use slot::{Place, SLOT_BYTES};
 pub use status::Status;
 pub use table::{well_formed, MAX_SLOTS};

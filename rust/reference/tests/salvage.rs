@@ -1,10 +1,10 @@
-//! The salvage of damaged tables.
+//! The salvage of damaged tables, and its report in words.
 
 mod common;
 
 use common::{blank, call, mixed_table, mixed_without_hashes, request_bytes, tally_of};
 use random::Rng;
-use reference::{salvage, slot, table, turn, well_formed};
+use reference::{salvage, salvage_text, slot, table, turn, well_formed};
 use reference::{Finding, Place, Tally, MAX_SLOTS, SLOT_BYTES};
 
 /// What report buffers hold before a salvage.
@@ -455,4 +455,34 @@ fn what_holds_of_every_salvage_holds_of_random_tables() {
         numbers[usize::from(assert_holds(&before).number)] += 1;
     }
     assert!(numbers[..10].iter().all(|&count| count > 0), "{numbers:?}");
+}
+
+fn text(table: &[u8]) -> String {
+    String::from_utf8(salvage_text(table)).expect("the report is text")
+}
+
+/// The example of PROFILE 2.11, which a table of case 24 has, and reports of 1 and of
+/// 15 slots.
+#[test]
+fn the_report_in_words() {
+    let before = case_table(&["9", "worn 7", "11"]);
+    assert_eq!(text(&before), "0 kept\n1 damaged\n2 repeated\ncleared 2\n");
+    assert_eq!(text(&case_table(&["7"])), "0 kept\ncleared 0\n");
+    assert_eq!(text(&case_table(&["worn 7"])), "0 damaged\ncleared 1\n");
+    let long = text(&vec![0xFF; MAX_SLOTS * SLOT_BYTES]);
+    let lines: Vec<&str> = long.lines().collect();
+    assert_eq!(lines.len(), 16);
+    assert_eq!((lines[0], lines[9]), ("0 damaged", "9 damaged"));
+    assert_eq!((lines[14], lines[15]), ("14 damaged", "cleared 15"));
+}
+
+/// There is no 107: the program has a byte for each of 15 slots.
+#[test]
+fn a_refused_table_has_one_line() {
+    for length in [0, 1, 4_287, 4_289, 64_319, 64_321, 68_608] {
+        assert_eq!(text(&vec![0; length]), "refused 102\n", "{length} bytes");
+    }
+    for slots in 1..=MAX_SLOTS {
+        assert!(text(&blank(slots)).ends_with("\ncleared 0\n"));
+    }
 }
