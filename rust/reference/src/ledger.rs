@@ -1,9 +1,10 @@
-//! The history of rights, told without a table (PROFILE 8).
+//! The history of rights, told by requests and statuses (PROFILE 8).
 //!
 //! A [`Ledger`] is a fold over pairs of a request and the status of its
-//! reply. It looks at no slot and repeats none of the agent's tests: what it
-//! knows of the card it knows from what was asked and granted. [`agrees`]
-//! compares a table with it.
+//! reply. It is empty for a blank card, or read off the table once, at the
+//! start. From then on it looks at no slot and repeats none of the agent's
+//! tests: what it knows of the card it knows from what was asked and granted.
+//! [`agrees`] compares a table with it.
 
 use crate::slot::{self, Place, SlotBytes};
 use crate::{table, Count, Fields, Handle, Key, Kind, Request, Status};
@@ -19,8 +20,8 @@ pub enum Standing {
     Gone,
 }
 
-/// A right, with the fields of its installation; handle and count as later
-/// requests changed them.
+/// A right, with the fields of its installation, or those that it had on the
+/// table at first; handle and count as later requests changed them.
 #[derive(Clone, Debug, PartialEq, Eq)]
 pub struct Right {
     /// Whether the right is for use, lent or gone.
@@ -59,7 +60,35 @@ impl Ledger {
         Ledger::default()
     }
 
-    /// The ledger of a whole history: the fold over its pairs.
+    /// The ledger read off a table, with which a history starts from there
+    /// (PROFILE 8.2): each enabled record is a right for use, each disabled one a
+    /// right lent, and each reserved one an open setup.
+    ///
+    /// # Errors
+    ///
+    /// 102 or 103, where the table is refused.
+    pub fn read_off(table: &[u8]) -> Result<Self, u16> {
+        table::check(table)?;
+        let mut ledger = Ledger::new();
+        for slot in table::slots(table) {
+            ledger.read_slot(slot);
+        }
+        Ok(ledger)
+    }
+
+    fn read_slot(&mut self, slot: &SlotBytes) {
+        match slot::place(slot) {
+            Place::Empty => {}
+            Place::Reserved => self.setups.push(Setup {
+                handle: slot::handle(slot),
+                length: slot::length(slot),
+            }),
+            Place::Enabled => self.rights.push(right_in(slot, Standing::ForUse)),
+            Place::Disabled => self.rights.push(right_in(slot, Standing::Lent)),
+        }
+    }
+
+    /// The ledger of a whole history of a blank card: the fold over its pairs.
     pub fn of<'a>(history: impl IntoIterator<Item = (Request<'a>, u8)>) -> Self {
         let mut ledger = Ledger::new();
         for (request, status) in history {
@@ -68,14 +97,16 @@ impl Ledger {
         ledger
     }
 
-    /// All rights ever installed; the index of a right is its number. Every
-    /// installation makes a right of its own, so two installations with equal
-    /// bytes make two rights.
+    /// All rights that there were: those on the table at first, in the order of
+    /// their slots, and then those installed since. The index of a right is its
+    /// number. Every installation makes a right of its own, so two installations
+    /// with equal bytes make two rights.
     pub fn rights(&self) -> &[Right] {
         &self.rights
     }
 
-    /// The open setups, in the order in which they were opened.
+    /// The open setups: those on the table at first, in the order of their slots,
+    /// and then the others, in the order in which they were opened.
     pub fn setups(&self) -> &[Setup] {
         &self.setups
     }
@@ -163,6 +194,18 @@ impl Ledger {
         self.rights
             .iter_mut()
             .find(|right| right.standing != Standing::Gone && right.handle == *handle)
+    }
+}
+
+/// The right that a slot holds.
+fn right_in(slot: &SlotBytes, standing: Standing) -> Right {
+    Right {
+        standing,
+        handle: slot::handle(slot),
+        key: slot::key(slot),
+        count: slot::count(slot),
+        hashes: slot::hashes(slot).to_vec(),
+        payload: slot::payload(slot).to_vec(),
     }
 }
 

@@ -1,4 +1,4 @@
-//! The history of rights, apart from the agent.
+//! The history of rights, apart from the agent, and read off a table.
 
 mod common;
 
@@ -138,6 +138,81 @@ fn the_mixed_table_agrees_with_its_history_in_any_slot_order() {
     let slots: Vec<&[u8]> = table.chunks(SLOT_BYTES).rev().collect();
     assert_eq!(agrees(&ledger, &slots.concat()), Ok(()));
     assert_eq!(agrees(&Ledger::new(), &common::blank(3)), Ok(()));
+}
+
+/// The mixed table has a right for use in slots 0 and 4, a lent one in slot 2, a
+/// reservation in slot 1, and nothing in slot 3.
+#[test]
+fn a_ledger_is_read_off_a_table_by_its_slots() {
+    let lent = Right {
+        standing: Standing::Lent,
+        handle: [5; 10],
+        ..as_installed(&right(3, 8, 4096))
+    };
+    let first = as_installed(&right(1, 2, 33));
+    let last = as_installed(&uncounted(fourth()));
+    let ledger = Ledger::read_off(&mixed_table()).expect("a well-formed table");
+    assert_eq!(ledger.rights(), [first, lent, last]);
+    let open = Setup {
+        handle: [2; 10],
+        length: 7,
+    };
+    assert_eq!(ledger.setups(), [open]);
+    assert_eq!(agrees(&ledger, &mixed_table()), Ok(()));
+}
+
+#[test]
+fn a_ledger_read_off_a_blank_table_is_empty() {
+    for slots in 1..=15 {
+        assert_eq!(
+            Ledger::read_off(&common::blank(slots)),
+            Ok(Ledger::default())
+        );
+    }
+}
+
+/// What was there at first keeps its numbers, and what is installed since has the
+/// next ones; a right on the table at first is lent, returned and removed like any
+/// other.
+#[test]
+fn a_history_goes_on_from_the_ledger_read_off() {
+    let mut table = mixed_table();
+    let mut ledger = Ledger::read_off(&table).expect("a well-formed table");
+    let at_first = ledger.rights().to_vec();
+    let steps = [
+        (2, right(2, 3, 6)),
+        (3, lending(1, 9)),
+        (5, returning(5, Count::Kept(0))),
+        (6, about(4)),
+        (1, setup(4, 9)),
+        (2, right(4, 1, 2)),
+    ];
+    for (kind, fields) in &steps {
+        common::call_for(0, &mut table, *kind, fields);
+        let frame = frame_bytes(*kind, fields);
+        let ReadRequest::Request(request) = read_request(&frame) else {
+            panic!("{frame:02x?} is a request");
+        };
+        ledger.tell(&request, 0);
+        assert_eq!(agrees(&ledger, &table), Ok(()), "kind {kind}");
+    }
+    let [mut first, mut second, mut third] = <[Right; 3]>::try_from(at_first).expect("three");
+    (first.standing, first.handle) = (Standing::Lent, [9; 10]);
+    (second.standing, second.count) = (Standing::ForUse, Count::Kept(0));
+    third.standing = Standing::Gone;
+    let installed = [right(2, 3, 6), right(4, 1, 2)].map(|fields| as_installed(&fields));
+    assert_eq!(ledger.rights()[..3], [first, second, third]);
+    assert_eq!(ledger.rights()[3..], installed);
+    assert!(ledger.setups().is_empty());
+}
+
+#[test]
+fn no_ledger_is_read_off_a_table_that_is_refused() {
+    let mut table = mixed_table();
+    table[191] = 1;
+    assert_eq!(Ledger::read_off(&table), Err(103));
+    table.pop();
+    assert_eq!(Ledger::read_off(&table), Err(102));
 }
 
 #[test]

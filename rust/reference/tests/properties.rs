@@ -7,8 +7,9 @@ use common::{blank, call_from, frame_bytes, Asker, FILLER};
 use random::Rng;
 use reference::ledger::{agrees, Ledger, Right, Standing};
 use reference::ReadRequest::{NoFrame, Refused, Request};
-use reference::{read_reply, read_request, well_formed, write_request};
-use reference::{Count, Fields, Kind, Reply, Tally, HASH_BYTES, MAX_SLOTS, REPLY_ROOM};
+use reference::{read_reply, read_request, salvage, turn, well_formed, write_request};
+use reference::{Count, Fields, Kind, Reply, Tally};
+use reference::{HASH_BYTES, MAX_SLOTS, REPLY_ROOM, SLOT_BYTES};
 use std::collections::BTreeSet;
 
 /// A table with its history.
@@ -23,6 +24,12 @@ impl Card {
             table: blank(slots),
             ledger: Ledger::new(),
         }
+    }
+
+    /// A card with this table, whose history starts from it.
+    fn on(table: Vec<u8>) -> Self {
+        let ledger = Ledger::read_off(&table).expect("a well-formed table");
+        Card { table, ledger }
     }
 
     /// Makes one call, from a slot of the table, and asserts what must hold of
@@ -162,6 +169,55 @@ fn call_sequences_keep_tables_well_formed_and_agree_with_the_ledger() {
     for count in [Count::NotKept, Count::Kept(0), Count::Kept(0xFFFF)] {
         assert!(counts.contains(&count), "{count:?}");
     }
+}
+
+/// What a right keeps, whatever is asked (PROFILE 8.3).
+fn kept(right: &Right) -> (&[u8], &[u8], &[u8]) {
+    (&right.key, &right.hashes, &right.payload)
+}
+
+/// Wears some bytes of a table, and takes the bits of its counts from it.
+fn worn_and_old(rng: &mut Rng, table: &[u8]) -> [Vec<u8>; 2] {
+    let mut worn = table.to_vec();
+    for _ in 0..rng.below(4) {
+        let at = rng.below(worn.len());
+        worn[at] ^= rng.bit(8);
+    }
+    let mut old = table.to_vec();
+    for slot in old.chunks_mut(SLOT_BYTES) {
+        slot[0] &= !2;
+    }
+    [worn, old]
+}
+
+/// From a table that a salvage left, and from one that a turning left.
+#[test]
+fn call_sequences_agree_with_a_ledger_read_off_the_table_that_they_start_from() {
+    let mut rng = Rng::announced("call sequences from other tables");
+    let (mut cleared, mut at_first) = (0, 0);
+    for slots in 1..=MAX_SLOTS {
+        let mut card = Card::blank(slots);
+        let asker = Asker::new(slots + 2);
+        for _ in 0..6 {
+            for _ in 0..40 {
+                card.call(rng.below(slots), &asker.frame(&mut rng));
+            }
+            let [mut worn, mut old] = worn_and_old(&mut rng, &card.table);
+            cleared += salvage(&mut worn, &mut [0; MAX_SLOTS]);
+            assert_eq!(turn(&mut old), 0);
+            for table in [worn, old] {
+                card = Card::on(table);
+                let first = card.ledger.rights().to_vec();
+                for _ in 0..40 {
+                    card.call(rng.below(slots), &asker.frame(&mut rng));
+                }
+                let now = card.ledger.rights().iter().map(kept);
+                assert!(first.iter().map(kept).eq(now.take(first.len())));
+                at_first += first.len();
+            }
+        }
+    }
+    assert!(cleared > 20 && at_first > 200, "{cleared}, {at_first}");
 }
 
 #[test]
