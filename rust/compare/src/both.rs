@@ -1,8 +1,9 @@
-//! One call after another, turnings, and tallies worked out, by the archive and
-//! by the reference.
+//! One call after another, turnings, salvages, and tallies worked out, by the
+//! archive and by the reference.
 
+use crate::alongside;
 use crate::tallies::tally_of;
-use driver::{Call, Driver, Tallied, Tally, Turned};
+use driver::{Call, Driver, Salvaged, Tallied, Tally, Turned};
 use reference::number::DONE;
 
 /// A table lent to the archive, and an equal one lent to the reference, with its
@@ -96,16 +97,10 @@ impl Both {
     /// Where the archive and the reference differ.
     pub fn work_out(&mut self, held: Tally) -> Tallied {
         let commands = &mut self.driver.commands;
-        let sent = commands.tally(&held);
-        sent.and_then(|()| commands.send())
+        let expected = alongside::work_out(commands, &self.table, held)
+            .and_then(|expected| commands.send().map(|()| expected))
             .expect("the driver takes the tally");
         let given = self.driver.answers.tallied();
-        let mut tally = held.into();
-        let number = reference::tally(&self.table, &mut tally);
-        let expected = Tallied {
-            number,
-            tally: tally.numbers(),
-        };
         if let Err(difference) = given.same_as(&expected) {
             let length = self.table.len();
             panic!("the tally of a table of {length} bytes: {difference}");
@@ -140,6 +135,27 @@ impl Both {
         if let Err(difference) = given.same_as(&expected) {
             panic!("a turning: {difference}");
         }
+        given
+    }
+
+    /// Salvages the table, with this report buffer, and goes on with what it leaves
+    /// and its tally.
+    ///
+    /// # Panics
+    ///
+    /// Where the archive and the reference differ.
+    pub fn salvage(&mut self, report: &[u8]) -> Salvaged {
+        let commands = &mut self.driver.commands;
+        let expected = alongside::salvage(commands, &self.table, report)
+            .and_then(|expected| commands.send().map(|()| expected))
+            .expect("the driver takes the report");
+        let given = self.driver.answers.salvaged();
+        if let Err(difference) = given.same_as(&expected) {
+            let (table, report) = (self.table.len(), report.len());
+            panic!("a salvage of {table} bytes with {report} report bytes: {difference}");
+        }
+        self.table = expected.table;
+        self.tally = tally_of(&self.table);
         given
     }
 }

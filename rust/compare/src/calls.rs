@@ -4,6 +4,7 @@
 //! compared; so are the tally and the listing of the table after each call, and
 //! what a reply that gives a right reads as.
 
+use crate::alongside;
 use crate::device;
 use crate::frames::Asker;
 use crate::outcome::{none_comes, Counted, Counts, Outcome};
@@ -317,7 +318,7 @@ fn call(
     }
     let answer = Answer {
         read_back: read_back_both(giver, rng, &call)?,
-        tallied: work_out_both(giver, rng, &card.table)?,
+        tallied: alongside::work_out(&mut giver.commands, &card.table, any(rng))?,
         listed: list_both(giver, rng, &card.table)?,
         call,
     };
@@ -367,17 +368,6 @@ fn read_back_both(giver: &mut Giver<Expected>, rng: &mut Rng, call: &Call) -> Re
     let numbers = Numbers::default().map(|_| rng.word());
     giver.commands.read_reply(frame, &key, &numbers)?;
     Ok(Some(device::expected(frame, key, numbers)))
-}
-
-/// Has the driver work out the tally of its table, in one that holds any numbers,
-/// and gives what the reference makes of it.
-fn work_out_both(giver: &mut Giver<Expected>, rng: &mut Rng, table: &[u8]) -> Result<Tallied> {
-    let held = any(rng);
-    giver.commands.tally(&held)?;
-    let mut tally = held.into();
-    let number = reference::tally(table, &mut tally);
-    let tally = tally.numbers();
-    Ok(Tallied { number, tally })
 }
 
 /// Has the driver list its table, and gives what the reference makes of it.

@@ -12,6 +12,7 @@
 //! | [`tallies`] | tallies at random, right and wrong ones |
 //! | [`tables`] | damaged tables, old ones, some with rights without a hash, and buffers for replies and listings |
 //! | [`pipeline`] | many commands on their way at once |
+//! | [`alongside`] | commands about a table, and what the reference makes of them |
 //! | [`calls`] | many calls, made at random and checked |
 //! | [`device`] | requests written and replies read, at random |
 //! | [`turning`] | tables from before a count had its bit, turned at random |
@@ -27,6 +28,7 @@
 #![forbid(unsafe_code)]
 #![warn(missing_docs)]
 
+pub mod alongside;
 pub mod both;
 pub mod calls;
 pub mod device;

@@ -1,5 +1,6 @@
 //! Tables from before a count had its bit, turned at random.
 
+use crate::alongside;
 use crate::frames::Asker;
 use crate::pipeline::{self, Giver};
 use crate::starts::inside;
@@ -142,15 +143,11 @@ fn fill_and_turn(giver: &mut Giver<Expected>, rng: &mut Rng, slots: usize) -> Re
 /// Has a table turned, and gives what the reference makes of it.
 fn turn(giver: &mut Giver<Expected>, before: &[u8]) -> Result<Vec<u8>> {
     giver.commands.table(before)?;
-    giver.commands.turn()?;
-    let mut table = before.to_vec();
-    let number = reference::turn(&mut table);
+    let turned = alongside::turn(&mut giver.commands, before)?;
+    let table = turned.table.clone();
     giver.expect(Expected {
         before: before.to_vec(),
-        turned: Turned {
-            number,
-            table: table.clone(),
-        },
+        turned,
     })?;
     Ok(table)
 }
