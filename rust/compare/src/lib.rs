@@ -10,7 +10,8 @@
 //! | [`frames`] | request frames at random, right and wrong ones |
 //! | [`starts`] | starts at random, right and wrong ones |
 //! | [`tallies`] | tallies at random, right and wrong ones |
-//! | [`tables`] | damaged tables, old ones, some with rights without a hash, and buffers for replies and listings |
+//! | [`tables`] | damaged tables, old ones, some with rights without a hash, and buffers for replies, listings and reports |
+//! | [`damage`] | tables damaged in every way that a salvage is for |
 //! | [`pipeline`] | many commands on their way at once |
 //! | [`alongside`] | commands about a table, and what the reference makes of them |
 //! | [`calls`] | many calls, made at random and checked |
@@ -31,6 +32,7 @@
 pub mod alongside;
 pub mod both;
 pub mod calls;
+pub mod damage;
 pub mod device;
 pub mod frames;
 pub mod outcome;

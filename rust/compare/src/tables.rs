@@ -1,5 +1,5 @@
 //! Damaged tables, tables from before a count had its bit, tables with rights
-//! without a hash, and buffers for replies and listings.
+//! without a hash, and buffers for replies, listings and reports.
 
 use crate::frames::{count, payload_length, Asker};
 use random::Rng;
@@ -33,9 +33,14 @@ pub fn with_unhashed(rng: &mut Rng, asker: &Asker, slots: usize) -> Vec<u8> {
 }
 
 /// A slot in any place, under this handle if it is not empty.
-fn any_record(rng: &mut Rng, asker: &Asker, handle: &Handle) -> Vec<u8> {
-    let mut slot = vec![0; SLOT_BYTES];
+pub fn any_record(rng: &mut Rng, asker: &Asker, handle: &Handle) -> Vec<u8> {
     let place = rng.pick(&[0, 1, 1, 2, 2, 2, 2, 3, 3]);
+    record(rng, asker, place, handle)
+}
+
+/// A slot in the place of this number, under this handle if it is not empty.
+pub fn record(rng: &mut Rng, asker: &Asker, place: u8, handle: &Handle) -> Vec<u8> {
+    let mut slot = vec![0; SLOT_BYTES];
     let length = match place {
         0 => return slot,
         1 => rng.pick(&[1, 40, 4096, 4096]),
@@ -90,7 +95,7 @@ pub fn before_turning(table: &[u8]) -> Vec<u8> {
 
 /// Gives the table another length, and fills it up with zeros. The longest
 /// table that there can be is among them, and a table of one slot more.
-fn wrong_length(rng: &mut Rng, table: &mut Vec<u8>) {
+pub fn wrong_length(rng: &mut Rng, table: &mut Vec<u8>) {
     let length = match rng.below(8) {
         0 => 0,
         1 => SLOT_BYTES - 1,
@@ -161,6 +166,19 @@ pub fn reply_buffer(rng: &mut Rng) -> Vec<u8> {
 /// A buffer for a listing, in which no two neighbouring bytes are equal.
 pub fn listing_buffer(rng: &mut Rng) -> Vec<u8> {
     patterned(rng, LISTING_ROOM)
+}
+
+/// A report buffer for a table of this many slots, with any bytes in it. One in
+/// sixteen is too short; the others are just long enough, or longer.
+pub fn report_buffer(rng: &mut Rng, slots: usize) -> Vec<u8> {
+    let room = match rng.below(16) {
+        0 => rng.below(slots.max(1)),
+        1..8 => slots,
+        8..12 => slots + 1,
+        12..14 => slots.max(MAX_SLOTS),
+        _ => slots + rng.below(40),
+    };
+    rng.bytes(room)
 }
 
 fn patterned(rng: &mut Rng, room: usize) -> Vec<u8> {
