@@ -17,11 +17,14 @@
 //! | [`calls`] | many calls, made at random and checked |
 //! | [`device`] | requests written and replies read, at random |
 //! | [`turning`] | tables from before a count had its bit, turned at random |
+//! | [`salvage`] | damaged tables, salvaged at random |
+//! | [`salvage_rules`] | what holds of every salvage |
 //! | [`both`] | one call after another, on a table chosen by a test |
 //! | [`pair`] | two cards that are sent the same frames from different starts |
 //! | [`outcome`] | which outcomes occurred, and which must occur |
 //! | [`steps`] | how calls changed the tally, and which of its numbers differed |
 //! | [`refusals`] | which calls gave a number, and what else was wrong with them |
+//! | [`found`] | what salvages found, and what must have been found |
 //!
 //! `COMPARE_SEED` sets another seed and `COMPARE_CALLS` another number of
 //! calls, both in decimal.
@@ -34,11 +37,14 @@ pub mod both;
 pub mod calls;
 pub mod damage;
 pub mod device;
+pub mod found;
 pub mod frames;
 pub mod outcome;
 pub mod pair;
 pub mod pipeline;
 pub mod refusals;
+pub mod salvage;
+pub mod salvage_rules;
 pub mod starts;
 pub mod steps;
 pub mod tables;
