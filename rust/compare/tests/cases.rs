@@ -1,5 +1,5 @@
-//! Cases 13 to 17, 22 and 23 of the card profile (PROFILE 9.2, 9.3, 9.6), what else
-//! is refused for the bit of a count or for a missing hash, and the fullest card
+//! Cases 13 to 17 and 22 to 24 of the card profile (PROFILE 9.2, 9.3, 9.6, 9.7), what
+//! else is refused for the bit of a count or for a missing hash, and the fullest card
 //! that there can be. All calls have the start 0 and the tally of their table.
 
 use compare::both::Both;
@@ -74,7 +74,7 @@ fn case_15_tables_of_other_lengths_are_102() {
     }
 }
 
-/// The handles, the key, the hash and the payload of cases 16, 17, 22 and 23.
+/// The handles, the key, the hash and the payload of cases 16, 17 and 22 to 24.
 const H1: [u8; 10] = [1; 10];
 const H2: [u8; 10] = [2; 10];
 const K: [u8; 16] = [1, 2, 3, 4, 5, 6, 7, 8, 9, 10, 11, 12, 13, 14, 15, 16];
@@ -380,6 +380,74 @@ fn a_right_is_found_by_each_of_its_hashes() {
     }
     let all = [&[0x28, 0, 0, 21, 0][..], &H1, &H2].concat();
     assert_eq!(reply(&mut both, &frame(8, 0x80, &[0, 0, 0])), all);
+}
+
+/// The slots of case 24, by their names: those after the success of cases 1, 7, 9 and
+/// 11, and worn ones with `01` in byte 191.
+fn case_24_slots(names: &[&str]) -> Vec<u8> {
+    let installed = &frame(2, 0x80, &installation(0));
+    let lent = &frame(4, 0x80, &[H1, H2].concat());
+    let returned = &frame(5, 0xC0, &returning(3));
+    let mut table = Vec::new();
+    for name in names {
+        let frames: &[&Vec<u8>] = match name.trim_start_matches("worn ") {
+            "blank" => &[],
+            "1" => &[&setup()],
+            "7" => &[&setup(), installed],
+            "9" => &[&setup(), installed, lent],
+            "11" => &[&setup(), installed, lent, returned],
+            _ => panic!("there is no slot {name}"),
+        };
+        let mut both = Both::on(blank(1));
+        for frame in frames {
+            assert_eq!(reply(&mut both, frame)[1], 0, "{name}");
+        }
+        let mut slot = both.table().to_vec();
+        slot[191] = u8::from(name.starts_with("worn "));
+        table.extend(slot);
+    }
+    table
+}
+
+/// Asserts what a salvage of these bytes gives and leaves, with a report buffer of
+/// `AA AA AA`.
+fn assert_salvaged(before: &[u8], number: u16, report: [u8; 3], after: &[u8]) {
+    let given = Both::on(before.to_vec()).salvage(&[0xAA; 3]);
+    assert_eq!((given.number, &given.report[..]), (number, &report[..]));
+    assert!(given.table == after);
+}
+
+/// Case 24: what is kept, damaged and repeated, and both refusals.
+#[test]
+fn case_24_damaged_tables_are_salvaged() {
+    type Row<'a> = (&'a [&'a str], u16, [u8; 3], &'a [&'a str]);
+    let alone = ["7", "blank", "blank", "blank"];
+    let rows: [Row<'_>; 8] = [
+        (&["7"], 0, [0, 0xAA, 0xAA], &["7"]),
+        (&["worn 7"], 1, [1, 0xAA, 0xAA], &["blank"]),
+        (&["worn 7", "7"], 1, [1, 0, 0xAA], &["blank", "7"]),
+        (&["7", "1"], 1, [0, 2, 0xAA], &["7", "blank"]),
+        (&["1", "7"], 1, [0, 2, 0xAA], &["1", "blank"]),
+        (
+            &["9", "worn 7", "11"],
+            2,
+            [0, 1, 2],
+            &["9", "blank", "blank"],
+        ),
+        (
+            &["9", "worn 9", "blank"],
+            1,
+            [0, 1, 0],
+            &["9", "blank", "blank"],
+        ),
+        (&alone, 107, [0xAA; 3], &alone),
+    ];
+    for (before, number, report, after) in rows {
+        let [before, after] = [before, after].map(case_24_slots);
+        assert_salvaged(&before, number, report, &after);
+    }
+    let short = &case_24_slots(&["7"])[..SLOT_BYTES - 1];
+    assert_salvaged(short, 102, [0xAA; 3], short);
 }
 
 /// What a slot may say of a count, by its place: byte 0 and the count number.
