@@ -7,6 +7,7 @@
 use crate::alongside;
 use crate::device;
 use crate::frames::Asker;
+use crate::mended::{Began, Mended};
 use crate::outcome::{none_comes, Counted, Counts, Outcome};
 use crate::outcome::{Return, Returns, Search, Searches, Unhashed};
 use crate::pipeline::{self, Giver};
@@ -18,7 +19,7 @@ use crate::tallies::{any, tally_of, wrong};
 use driver::{Answers, Call, Listed, Numbers, Read, Same, Tallied, Tally};
 use random::Rng;
 use reference::ledger::{agrees, Ledger, Standing};
-use reference::number::{DONE, TALLY_DIFFERS};
+use reference::number::{DONE, TABLE_NOT_WELL_FORMED, TALLY_DIFFERS};
 use reference::{read_request, Kind, ReadRequest, Request, MAX_SLOTS, SLOT_BYTES};
 use std::collections::BTreeMap;
 use std::io::Result;
@@ -28,17 +29,18 @@ const SEQUENCE: usize = 160;
 
 /// How many there are in one on a card that holds rights already, some of them
 /// without a hash. No request brings these back once they are removed.
-const UNTOLD_SEQUENCE: usize = 50;
+const FILLED_SEQUENCE: usize = 50;
+
+/// How many there are in one on a card that was salvaged or turned.
+const MENDED_SEQUENCE: usize = 25;
 
 /// Where a call stands in the history of a table.
 #[derive(Clone, Copy, Debug, PartialEq, Eq)]
 enum History {
-    /// The first call on a blank table.
-    Begins,
+    /// The first call, on a table that no history tells of.
+    Begins(Began),
     /// The next call on the same table.
     GoesOn,
-    /// A call on a card that holds rights of which no history tells.
-    Untold,
     /// A call on another table, which belongs to no history.
     Apart,
 }
@@ -65,20 +67,28 @@ impl History {
 struct Card {
     table: Vec<u8>,
     tally: Tally,
+    /// What the history of the card begins with.
+    began: Began,
+    /// What was made of the table, before the first call on it.
+    mended: Option<Mended>,
 }
 
 impl Card {
-    fn blank(slots: usize) -> Card {
-        let table = blank(slots);
-        let tally = tally_of(&table);
-        Card { table, tally }
+    /// A card with this table and its tally.
+    fn with(table: Vec<u8>, began: Began) -> Card {
+        Card {
+            tally: tally_of(&table),
+            table,
+            began,
+            mended: None,
+        }
     }
 
-    /// A card that holds rights without a hash.
-    fn with_unhashed(rng: &mut Rng, asker: &Asker, slots: usize) -> Card {
-        let table = with_unhashed(rng, asker, slots);
-        let tally = tally_of(&table);
-        Card { table, tally }
+    /// A card with the table left and its tally.
+    fn mended(mended: Mended) -> Card {
+        let mut card = Card::with(mended.table().to_vec(), mended.began());
+        card.mended = Some(mended);
+        card
     }
 
     /// A card with a damaged table. Its tally is the one from before the damage,
@@ -89,7 +99,10 @@ impl Card {
             0 => self.tally,
             _ => tally_of(&table),
         };
-        Card { table, tally }
+        Card {
+            tally,
+            ..Card::with(table, self.began)
+        }
     }
 
     /// The tally that is lent with the next call; one in `wrong_in` is not that
@@ -113,9 +126,11 @@ pub struct Handed {
     pub frame: Vec<u8>,
 }
 
-/// What comes of a call: what it gives and leaves, what its reply reads as where
-/// it gives a right, and tally and listing of the table that it leaves.
+/// What comes of a call: what was made of its table before, if it is the first on a
+/// mended one, what it gives and leaves, what its reply reads as where it gives a
+/// right, and tally and listing of the table that it leaves.
 struct Answer {
+    mended: Option<Mended>,
     call: Call,
     read_back: Option<Read>,
     tallied: Tallied,
@@ -125,7 +140,9 @@ struct Answer {
 impl Answer {
     /// The driver's next answer, where this one is expected.
     fn next(answers: &mut Answers, expected: &Answer) -> Answer {
+        let mended = expected.mended.as_ref();
         Answer {
+            mended: mended.map(|mended| Mended::next(answers, mended)),
             call: answers.call(),
             read_back: expected.read_back.is_some().then(|| answers.read()),
             tallied: answers.tallied(),
@@ -135,6 +152,9 @@ impl Answer {
 
     /// Whether this is exactly the answer expected.
     fn same_as(&self, expected: &Answer) -> Same {
+        if let (Some(mended), Some(expected)) = (&self.mended, &expected.mended) {
+            mended.same_as(expected)?;
+        }
         self.call.same_as(&expected.call)?;
         if let (Some(read), Some(expected)) = (&self.read_back, &expected.read_back) {
             read.same_as(expected)?;
@@ -176,6 +196,8 @@ pub struct Seen {
     pub steps: BTreeMap<Step, u64>,
     /// The numbers that were given where a tally was worked out.
     pub worked_out: BTreeMap<u16, u64>,
+    /// What the histories began with that the tables were compared with.
+    pub told: BTreeMap<Began, u64>,
     /// The first lines of the listings: the header, or a refusal.
     pub listings: BTreeMap<String, u64>,
 }
@@ -258,31 +280,44 @@ pub fn compare(mut rng: Rng, calls: u64) -> Seen {
     checker.seen
 }
 
-/// Makes a sequence of calls that starts from a blank table, and one on a card
-/// that holds rights without a hash. Gives how many calls it made.
+/// Makes a sequence of calls that starts from a blank table, and goes on when it was
+/// damaged and salvaged; and one on a card that holds rights without a hash, which
+/// goes on when it was turned. Gives how many calls it made.
 fn sequences(giver: &mut Giver<Expected>, rng: &mut Rng, slots: usize) -> Result<u64> {
-    let asker = Asker::new(slots);
-    let mut told = vec![History::GoesOn; SEQUENCE];
-    told[0] = History::Begins;
-    let made = sequence(giver, rng, &asker, Card::blank(slots), &told)?;
-    let card = Card::with_unhashed(rng, &asker, slots);
-    let untold = [History::Untold; UNTOLD_SEQUENCE];
-    Ok(made + sequence(giver, rng, &asker, card, &untold)?)
+    let asker = &Asker::new(slots);
+    let mut card = Card::with(blank(slots), Began::Blank);
+    giver.commands.table(&card.table)?;
+    let mut made = sequence(giver, rng, asker, &mut card, SEQUENCE)?;
+
+    let salvaged = Mended::salvaged(&mut giver.commands, rng, card.table)?;
+    card = Card::mended(salvaged);
+    made += sequence(giver, rng, asker, &mut card, MENDED_SEQUENCE)?;
+
+    card = Card::with(with_unhashed(rng, asker, slots), Began::Filled);
+    giver.commands.table(&card.table)?;
+    made += sequence(giver, rng, asker, &mut card, FILLED_SEQUENCE)?;
+
+    let turned = Mended::turned(&mut giver.commands, &card.table)?;
+    card = Card::mended(turned);
+    made += sequence(giver, rng, asker, &mut card, MENDED_SEQUENCE)?;
+    Ok(made)
 }
 
-/// Makes a call on a card for each item of its history, and some more on a damaged
-/// copy of its table. Gives how many calls it made.
+/// Makes so many calls on a card whose table the driver has, with a history that
+/// begins there, and some more on a damaged copy of the table. Gives how many calls
+/// it made.
 fn sequence(
     giver: &mut Giver<Expected>,
     rng: &mut Rng,
     asker: &Asker,
-    mut card: Card,
-    history: &[History],
+    card: &mut Card,
+    calls: usize,
 ) -> Result<u64> {
     let mut made = 0;
-    giver.commands.table(&card.table)?;
-    for &history in history {
-        call(giver, rng, asker, history, &mut card)?;
+    let mut history = History::Begins(card.began);
+    for _ in 0..calls {
+        call(giver, rng, asker, history, card)?;
+        history = History::GoesOn;
         made += 1;
         if rng.one_in(10) {
             let mut other = card.damaged(rng);
@@ -317,6 +352,7 @@ fn call(
         card.tally = call.tally;
     }
     let answer = Answer {
+        mended: card.mended.take(),
         read_back: read_back_both(giver, rng, &call)?,
         tallied: alongside::work_out(&mut giver.commands, &card.table, any(rng))?,
         listed: list_both(giver, rng, &card.table)?,
@@ -386,6 +422,7 @@ struct Checker {
     checked: u64,
     seen: Seen,
     ledger: Ledger,
+    began: Began,
 }
 
 impl Checker {
@@ -409,13 +446,23 @@ impl Checker {
         self.checked += 1;
     }
 
-    /// Compares a table with its history, told by requests and statuses.
+    /// Compares a table with its history, told by requests and statuses. The ledger
+    /// is read off the table once, where the history begins. No call of the history
+    /// gives 103 (PROFILE 8.3).
     fn follow(&mut self, call: &Expected, outcome: Outcome, table: &[u8]) -> Same {
         match call.history {
-            History::Apart | History::Untold => return Ok(()),
-            History::Begins => self.ledger = Ledger::new(),
+            History::Apart => return Ok(()),
+            History::Begins(began) => {
+                self.began = began;
+                self.ledger = Ledger::read_off(&call.before)
+                    .map_err(|number| format!("the table at first is refused with {number}"))?;
+            }
             History::GoesOn => {}
         }
+        if outcome == Outcome::Refused(TABLE_NOT_WELL_FORMED) {
+            return Err("it refused the table that the last call left".into());
+        }
+        *self.seen.told.entry(self.began).or_default() += 1;
         self.tell(&call.handed.frame, outcome);
         agrees(&self.ledger, table)
     }
@@ -463,8 +510,7 @@ fn describe(expected: &Expected) -> String {
     } = &expected.handed;
     let table = match expected.history {
         History::Apart => "damaged",
-        History::Begins | History::GoesOn => "reached",
-        History::Untold => "given",
+        History::Begins(_) | History::GoesOn => "reached",
     };
     format!(
         "on a {table} table of {} bytes, with {tally:?}, from {start}, with a frame of {} bytes that begins {:02x?}",

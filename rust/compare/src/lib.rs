@@ -15,6 +15,7 @@
 //! | [`pipeline`] | many commands on their way at once |
 //! | [`alongside`] | commands about a table, and what the reference makes of them |
 //! | [`calls`] | many calls, made at random and checked |
+//! | [`mended`] | cards that were salvaged or turned before their first call |
 //! | [`device`] | requests written and replies read, at random |
 //! | [`turning`] | tables from before a count had its bit, turned at random |
 //! | [`salvage`] | damaged tables, salvaged at random |
@@ -39,6 +40,7 @@ pub mod damage;
 pub mod device;
 pub mod found;
 pub mod frames;
+pub mod mended;
 pub mod outcome;
 pub mod pair;
 pub mod pipeline;

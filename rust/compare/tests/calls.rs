@@ -1,9 +1,11 @@
 //! Calls at random: the archive gives the number, the reply buffer, the table and
 //! the tally that the reference gives, every table agrees with its history, and
-//! every tally with its table. On cards that hold rights without a hash, all that
-//! can come of them does, and no other one comes.
+//! every tally with its table. So they do after a salvage and after a turning, with a
+//! history that starts from the table left. On cards that hold rights without a hash,
+//! all that can come of them does, and no other one comes.
 
 use compare::calls::compare;
+use compare::mended::Began;
 use compare::outcome::{assert_all_occurred, returns_that_can_occur};
 use compare::outcome::{searches_that_can_occur, that_can_occur, Unhashed};
 use compare::refusals::{Precedence, Regardless};
@@ -28,6 +30,7 @@ fn random_calls_agree_with_the_reference_and_with_their_history() {
     assert_all_occurred(&seen.regardless, Regardless::that_can_occur());
     assert_all_occurred(&seen.differences, Difference::that_can_occur());
     assert_all_occurred(&seen.steps, Step::that_can_occur());
+    assert_all_occurred(&seen.told, Began::ALL.to_vec());
     let worked_out: Vec<u16> = seen.worked_out.keys().copied().collect();
     println!("tallies worked out: {:?}", seen.worked_out);
     assert_eq!(worked_out, [0, 102, 103]);
