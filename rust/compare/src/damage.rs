@@ -98,19 +98,19 @@ impl Damage {
 impl fmt::Display for Damage {
     fn fmt(&self, f: &mut fmt::Formatter<'_>) -> fmt::Result {
         f.write_str(match self {
-            Damage::Nothing => "nothing",
-            Damage::Bit => "a bit",
-            Damage::BitOfHandle => "a bit of a handle, to another's",
-            Damage::Block => "a block",
-            Damage::BlockAcross => "a block across slots",
-            Damage::Place => "a place",
-            Damage::EmptySlot => "an empty slot",
+            Damage::Nothing => "no damage",
+            Damage::Bit => "one bit changed",
+            Damage::BitOfHandle => "one bit of a handle changed to another's",
+            Damage::Block => "a block overwritten",
+            Damage::BlockAcross => "a block across slots overwritten",
+            Damage::Place => "a place changed",
+            Damage::EmptySlot => "an empty slot changed",
             Damage::Repeated => "a handle repeated",
-            Damage::RepeatedAndWorn => "a handle repeated in a worn slot",
-            Damage::Worn => "worn slots",
+            Damage::RepeatedAndWorn => "a handle repeated and a slot worn",
+            Damage::Worn => "slots worn",
             Damage::Garbage => "garbage",
-            Damage::Several => "several",
-            Damage::Length => "its length",
+            Damage::Several => "damage of several sorts",
+            Damage::Length => "another length",
         })
     }
 }

@@ -189,7 +189,7 @@ impl fmt::Display for Came {
             Came::LengthBeforeReport => write!(f, "102 and not 107"),
             Came::Room(Ordering::Greater) => write!(f, "a longer report buffer"),
             Came::Room(_) => write!(f, "a byte for each slot"),
-            Came::After(damage) => write!(f, "damage to {damage}"),
+            Came::After(damage) => write!(f, "after {damage}"),
             Came::OneChanged(finding) => write!(f, "one slot changed, {}", finding.word()),
             Came::In(place, finding) => write!(f, "{}, {}", place.word(), finding.word()),
             Came::Times(times) => write!(f, "a handle {times} times"),

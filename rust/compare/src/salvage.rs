@@ -181,7 +181,7 @@ fn salvage(giver: &mut Giver<Expected>, rng: &mut Rng, lent: Lent) -> Result<()>
 /// What a salvage was lent, in words.
 fn describe(lent: &Lent) -> String {
     format!(
-        "of a table of {} bytes, with {} report bytes, after damage to {}",
+        "of a table of {} bytes, with {} report bytes, after {}",
         lent.table.len(),
         lent.report.len(),
         lent.damage
