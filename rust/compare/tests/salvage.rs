@@ -180,3 +180,20 @@ fn a_salvaged_table_is_called() {
     assert_eq!(both.call(0, &query(2), &buffer).reply[..2], [0x29, 4]);
     assert_eq!(both.salvage(&[FILLER; 4]).report, [0; 4]);
 }
+
+/// Whether a slot was cleared does not say whether the tally from before the damage is
+/// that of the table left. A damaged empty slot is cleared, and the tally is the same;
+/// a right that was lent and reads as enabled is kept, and the tally is another.
+#[test]
+fn a_tally_from_before_the_damage_may_be_right_or_wrong() {
+    let whole = [slot(3, 1), blank(1)].concat();
+    for (at, byte, cleared, right) in [(SLOT_BYTES + 192, 1, 1, true), (0, 0x80, 0, false)] {
+        let mut both = Both::on(whole.clone());
+        let before = both.tally();
+        let mut damaged = whole.clone();
+        damaged[at] = byte;
+        both.go_on(damaged);
+        assert_eq!(both.salvage(&[FILLER; 2]).number, cleared);
+        assert_eq!(both.work_out([0; 5]).tally == before, right);
+    }
+}
