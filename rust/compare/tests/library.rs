@@ -2,10 +2,12 @@
 //! listings are those of the reference.
 
 use cavernlull::{AssetHash, Card, Handle, Key, Kind, Reply, Request, Right, Status};
-use cavernlull::{CallError, Error, Tally, TallyError, TurnError, Verdict, WriteError};
+use cavernlull::{CallError, Error, SalvageError, Tally, TallyError, TurnError};
+use cavernlull::{Verdict, WriteError};
+use compare::damage::{self, Damage};
 use compare::frames::Asker;
 use compare::starts::{inside, start};
-use compare::tables::{before_turning, blank, damaged, with_unhashed};
+use compare::tables::{before_turning, blank, damaged, report_buffer, with_unhashed};
 use compare::tallies::{tally_of, wrong};
 use random::Rng;
 use reference::{Count, Fields, ReadRequest, HANDLE_BYTES, HASH_BYTES, MAX_SLOTS, REPLY_ROOM};
@@ -288,6 +290,55 @@ fn old_tables_are_turned_as_the_reference_turns_them() {
         }
     }
     assert_eq!(seen, BTreeSet::from([0, 102, 103]));
+}
+
+/// Cards damaged in every way: number, report, table and tally afterwards are
+/// those of the reference.
+#[test]
+fn damaged_cards_are_salvaged_as_the_reference_salvages_them() {
+    let mut rng = Rng::announced("typed salvages");
+    let mut seen = BTreeSet::new();
+    for slots in 1..=MAX_SLOTS {
+        for damage in Damage::all() {
+            for _ in 0..4 {
+                let mut table = damage::card(&mut rng, slots);
+                damage.damage(&mut rng, &mut table);
+                seen.insert(salvaged(&mut rng, table, slots));
+            }
+        }
+    }
+    assert_eq!(seen, (0..=15).chain([102, 107]).collect());
+}
+
+/// Salvages a card into a buffer, and one like it in words; gives the number.
+fn salvaged(rng: &mut Rng, mut table: Vec<u8>, slots: usize) -> u16 {
+    let mut in_words = Card::from(table.clone());
+    let words = match in_words.salvage() {
+        Ok(report) => report.to_string(),
+        Err(error) => format!("refused {}\n", error.number()),
+    };
+    assert_eq!(words.as_bytes(), reference::salvage_text(&table));
+
+    let mut card = Card::from(table.clone());
+    let mut report = report_buffer(rng, slots);
+    let mut expected = report.clone();
+    let number = reference::salvage(&mut table, &mut expected);
+    let given = card.salvage_into(&mut report);
+    assert_eq!(given.map_err(SalvageError::number), cleared(number));
+    assert!(card.table() == table && report == expected);
+    if number <= 15 {
+        assert!(in_words.table() == table);
+        assert_eq!(Tally::of(&table), Ok(card.tally()));
+    }
+    number
+}
+
+/// What the library gives for a number of the salvage.
+fn cleared(number: u16) -> Result<usize, u16> {
+    match number {
+        0..=15 => Ok(number.into()),
+        _ => Err(number),
+    }
 }
 
 /// Tables that requests filled, some of them damaged. A card with a tally that is
