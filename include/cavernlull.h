@@ -246,8 +246,8 @@ enum {
  *   102 CAVERNLULL_TABLE_LENGTH         the table is not 1 to 15 slots of 4,288 bytes
  *   107 CAVERNLULL_REPORT_BUFFER_SHORT  `report` has fewer bytes than the table has slots
  *
- * Where a slot was cleared, the tally from before is no longer the table's: get it from `cavernlull_tally`. A table that a version
- * before 3.0.0 wrote is turned first (`cavernlull_turn`), since a count without its bit is damage to a salvage.
+ * Whatever the number, get the tally from `cavernlull_tally` afterwards: that of before the damage may not be the table's. A table
+ * that a version before 3.0.0 wrote is turned first (`cavernlull_turn`), since a count without its bit is damage to a salvage.
  */
 uint16_t cavernlull_salvage(uint8_t *table, size_t table_length, uint8_t *report, size_t report_length);
 
