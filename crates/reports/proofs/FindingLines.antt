@@ -9,7 +9,7 @@ use lib.ListN.{length, getD, take, length-append}
 use lib.Seq.{take-suc, length-take-le}
 use Rattle.profile.specs.Bytes.{Bytes}
 use Rattle.profile.specs.Text.{text}
-use Rattle.texts.specs.Written.{Wrote, number}
+use Rattle.texts.specs.Written.{Wrote, number, numbered}
 use Rattle.texts.proofs.Digits.{number-few}
 use Rattle.texts.proofs.Writing.{wrote-none, wrote-then}
 use Rattle.reports.specs.Printing.{wordOf, lineOf, linesFrom, linesOf, clearedText}
@@ -46,10 +46,9 @@ line-most : (i b : ℕ) → i < 100 → length (lineOf i b) ≤ 12
 unfolding lineOf
 line-most i b h = simp length-append (omega (arith, number-few 1 i h, word-most b))
 
-pub cleared-there : (n : ℕ) {at e₁ e₂ e₃ : ℕ} {d d₁ d₂ d₃ : Bytes} → Wrote (text "cleared ") at d d₁ e₁ → Wrote (number n) e₁ d₁ d₂ e₂ → Wrote (text "\n") e₂ d₂ d₃ e₃
-    → Wrote (clearedText n) at d d₃ e₃
-unfolding clearedText number
-cleared-there n u v w = wrote-then (wrote-then u v) w
+pub is-cleared : (n : ℕ) → numbered (text "cleared ") n ≡ clearedText n
+unfolding clearedText numbered number
+is-cleared n = refl
 
 -- ---- the lines of the first i slots
 lines-snoc : (k : ℕ) (xs : Bytes) (b : ℕ) → linesFrom k (xs ++ (b ∷ [])) ≡ linesFrom k xs ++ lineOf (k + length xs) b

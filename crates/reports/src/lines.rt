@@ -53,7 +53,5 @@ pub(crate) fn put_cleared(out: &mut [u8], at: usize, n: usize) -> usize
     requires { ⌜ (n < 100) × (at + 11 ≤ length (now out)) ⌝ }
     ensures { λ r. ⌜ Wrote (clearedText n) at (now (out .entry)) (now (out .exit)) r ⌝ }
 {
-    let after_word = put_word(out, at, b"cleared ");
-    let after_number = put_number(out, after_word, n);
-    put_word(out, after_number, b"\n")
+    texts::put_numbered(out, at, b"cleared ", n)
 }

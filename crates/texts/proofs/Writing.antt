@@ -1,6 +1,6 @@
 -- Bytes put one after the other. Assumes nothing.
 use Prim.Native.Nat.{ℕ, _≤_}
-use mathlib.Core.Path.{_≡_, sym, ap, _∙_}
+use mathlib.Core.Path.{_≡_, refl, sym, ap, _∙_}
 use mathlib.Core.List.{[], _++_, append-nil}
 use native.Mathlib.Omega.{arith}
 use native.Mathlib.Nat.{add-zero}
@@ -9,7 +9,7 @@ use Rattle.profile.specs.Bytes.{Bytes}
 use Rattle.profile.specs.Text.{text}
 use Rattle.buffers.specs.Over.{overAt}
 use Rattle.buffers.proofs.Overlays.{over-length, over-more}
-use Rattle.texts.specs.Written.{Wrote, number, refusal}
+use Rattle.texts.specs.Written.{Wrote, number, numbered, refusal}
 
 -- ---- what was put: nothing; something, and then more
 pub wrote-none : (d : Bytes) (at : ℕ) → at ≤ length d → Wrote [] at d d at
@@ -30,7 +30,12 @@ module _ {xs d d' : Bytes} {at end : ℕ} (w : Wrote xs at d d' end) where
         written = v .written ∙ ap (λ (l : Bytes). overAt end ys l) (w .written) ∙ over-more xs ys d at end (w .ends) (omega (arith, v .ends));
       }
 
--- ---- the line of a refused table
-pub refusal-there : (n : ℕ) {d d₁ d₂ d₃ : Bytes} {e₁ e₂ e₃ : ℕ} → Wrote (text "refused ") 0 d d₁ e₁ → Wrote (number n) e₁ d₁ d₂ e₂ → Wrote (text "\n") e₂ d₂ d₃ e₃ → Wrote (refusal n) 0 d d₃ e₃
-unfolding refusal number
-refusal-there n u v w = wrote-then u (wrote-then v w)
+-- ---- a line of a word and a number
+pub numbered-there : (word : Bytes) (n : ℕ) {at e₁ e₂ e₃ : ℕ} {d d₁ d₂ d₃ : Bytes} → Wrote word at d d₁ e₁ → Wrote (number n) e₁ d₁ d₂ e₂ → Wrote (text "\n") e₂ d₂ d₃ e₃
+    → Wrote (numbered word n) at d d₃ e₃
+unfolding numbered
+numbered-there word n u v w = wrote-then (wrote-then u v) w
+
+pub is-refusal : (n : ℕ) → numbered (text "refused ") n ≡ refusal n
+unfolding numbered number refusal
+is-refusal n = refl

@@ -1,8 +1,10 @@
 -- What was put into a buffer, and the pieces that all texts have.
 use Prim.Native.Nat.{ℕ, _+_, _≤_}
 use mathlib.Core.Path.{_≡_}
+use mathlib.Core.List.{_++_}
 use lib.ListN.{length}
 use Rattle.profile.specs.Bytes.{Bytes}
+use Rattle.profile.specs.Text.{text}
 use Rattle.profile.specs.Listing.{decimal, refusedLine}
 use Rattle.buffers.specs.Over.{overAt}
 
@@ -12,9 +14,12 @@ pub record Wrote (xs : Bytes) (at : ℕ) (d d' : Bytes) (end : ℕ) : Type 0 whe
   pub inside : end ≤ length d
   pub written : d' ≡ overAt at xs d
 
--- the profile's definitions, under names that stay shut
+-- a number in decimal; a line of a word and a number; the line of a refused table
 unfoldable pub number : ℕ → Bytes
 number n = decimal n
+
+unfoldable pub numbered : Bytes → ℕ → Bytes
+numbered word n = word ++ number n ++ text "\n"
 
 unfoldable pub refusal : ℕ → Bytes
 refusal n = refusedLine n
