@@ -50,6 +50,8 @@ pub demands-hold : DemandCases.Hold
 unfolding slotNumber firstStatus firstKind agent wholeSlots zeros wellTable slotBytes wellRest wellSlot slotsOf unpack readRequest over replyFrame frame firstEmptyFrom act tableOf pack image tallyOf
 demands-hold =
     record {
+      read-off = refl;
+      goes-on = refl;
       missing = λ r. not-equal 0 2 (λ t. t) (ap slotNumber (in-one (taken H1 (enabled plain)) empty (r .used H1 plain .1 (0, refl))));
       untold = λ r. not-there (r .used H1 plain .0 (0, refl) .1);
       not-set-up = λ r. not-there (r .awaited H1 5 .0 (0, refl) .1);

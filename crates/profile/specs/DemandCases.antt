@@ -1,18 +1,19 @@
--- The words of PROFILE 8.3 in worked cases, with what they exclude: records that agree, what rights hold, calls by which a key goes out, returns, and tables
--- that differ in keys alone.
+-- The words of PROFILE 8.2 and 8.3 in worked cases, with what they exclude: the ledger at first, records that agree, what rights hold, calls by which a key
+-- goes out, returns, and tables that differ in keys alone.
 use mathlib.Core.Path.{_≡_}
 use mathlib.Core.List.{List, [], _∷_, _++_, map}
 use mathlib.Core.Bool.{true, false}
 use lib.ListN.{take, drop, replicate}
 use Rattle.profile.specs.Bytes.{Bytes}
-use Rattle.profile.specs.Slot.{NoneKept, Kept, rightWith, reserved, enabled, empty, taken}
+use Rattle.profile.specs.Slot.{NoneKept, Kept, rightWith, reserved, enabled, disabled, Slot, empty, taken}
 use Rattle.profile.specs.Request.{install, rek, retrieve, enable, remove}
 use Rattle.profile.specs.Tally.{Tally, tallyWith}
 use Rattle.profile.specs.Agent.{Call}
-use Rattle.profile.specs.History.{Owned, forUse, lent, gone, Ledger, blankLedger, Exchange}
-use Rattle.profile.specs.CaseBytes.{hex, changed, H1, H2, H3, H4, K, L, A, B, five}
+use Rattle.profile.specs.History.{open-setup, Owned, forUse, lent, gone, Ledger, blankLedger, Exchange, history}
+use Rattle.profile.specs.CaseBytes.{hex, changed, H0, H1, H2, H3, H4, K, L, A, B, five}
 use Rattle.profile.specs.CaseTables.{blank, after7, after9, counted7, hashed2, waiting}
 use Rattle.profile.specs.HistoryCases.{plain, other, asking}
+use Rattle.profile.specs.Run.{ledgerOf}
 use Rattle.profile.specs.Contents.{installations, lastCount, held, countAfter, Contents}
 use Rattle.profile.specs.Demand3.{Records, KeyOut, returned, AlikeButKeys}
 
@@ -27,6 +28,10 @@ rekeyed key s = take 11 s ++ key ++ drop 27 s
 -- a ledger with these rights and no setup
 abbrev pub ledgerWith : List Owned → Ledger
 ledgerWith rights = record { setups = []; rights = rights }
+
+-- ---- a card that is in use: a reservation, a right that is lent, an empty slot, a right for use, and another reservation
+abbrev pub inUseCard : List Slot
+inUseCard = taken H4 (reserved 5) ∷ taken H2 (disabled plain) ∷ empty ∷ taken H1 (enabled other) ∷ taken H0 (reserved 9) ∷ []
 
 -- ---- exchanges: two rights with equal bytes; the first is lent, comes back with a kept count of 3, is lent again and comes back with 2; the second is removed;
 -- among them requests that are refused, and a return that is sent again
@@ -48,6 +53,10 @@ exchanged = asking (install H1 plain) 0 ∷ asking (rek H1 H2) 0 ∷ later
 
 -- ---- these are what the definitions say
 pub record Hold : Type 0 where
+  -- the ledger is read off the slots in their order; an installation then closes its setup, and its right comes after those that were there
+  pub read-off : ledgerOf inUseCard ≡ record { setups = open-setup H4 5 ∷ open-setup H0 9 ∷ []; rights = lent H2 plain ∷ forUse H1 other ∷ [] }
+  pub goes-on : history (ledgerOf inUseCard) (asking (install H0 plain) 0 ∷ asking (rek H1 H3) 0 ∷ asking (enable H2 (Kept 3)) 4 ∷ [])
+      ≡ record { setups = open-setup H4 5 ∷ []; rights = lent H2 plain ∷ lent H3 other ∷ forUse H0 plain ∷ [] }
   -- records agree: not one that is missing, that no right or setup has, that is of another place, or that stands twice
   pub missing : ¬ Records (ledgerWith (forUse H1 plain ∷ [])) (empty ∷ [])
   pub untold : ¬ Records blankLedger (taken H1 (enabled plain) ∷ [])
