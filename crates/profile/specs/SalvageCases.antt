@@ -8,6 +8,7 @@ use Rattle.profile.specs.Bytes.{Bytes}
 use Rattle.profile.specs.Text.{text}
 use Rattle.profile.specs.Slot.{reserved, empty, taken}
 use Rattle.profile.specs.Salvage.{Finding, kept, damaged, repeated, judge, mended, findings, leftBy, cleared, Salvaged, salvage}
+use Rattle.profile.specs.Salvages.{Beside}
 use Rattle.profile.specs.SalvageText.{tablePrinted, findingLines, salvageText}
 use Rattle.profile.specs.CaseBytes.{hex, changed, renamed, H0, H1, H2, H4}
 use Rattle.profile.specs.CaseTables.{blank, after1, after7, after9, after11, counted7, bare, hashed2, nameless, waiting}
@@ -45,6 +46,7 @@ tables =
     ∷ gives (worn7 ++ changed 4287 0x01 blank ++ worn7) 3 "01 01 01" (blank ++ blank ++ blank)
     -- ten zeros are a handle, which an empty slot has not
     ∷ gives (blank ++ nameless ++ renamed H0 after7) 1 "00 00 02" (blank ++ nameless ++ blank)
+    ∷ gives (nameless ++ blank ++ blank) 0 "00 00 00" (nameless ++ blank ++ blank)
     -- nothing is damaged: rights without a hash and with a count are in order
     ∷ gives (bare ++ after11 ++ waiting) 0 "00 00 00" (bare ++ after11 ++ waiting)
     -- a count without its bit, as before counts had it, is damage
@@ -61,6 +63,7 @@ printed =
     ∷ (after9 ++ worn7 ++ after11, after9 ++ blank ++ blank, "0 kept\n1 damaged\n2 repeated\ncleared 2\n")
     ∷ ([], [], "refused 102\n")
     ∷ (take 4287 after7, [], "refused 102\n")
+    ∷ (0x00 ∷ after7, [], "refused 102\n")
     ∷ []
 
 -- ---- these are what the definitions say
@@ -74,6 +77,10 @@ pub record Hold : Type 0 where
   pub taken-for : map mended (worn7 ∷ waiting ∷ blank ∷ []) ≡ empty ∷ taken H4 (reserved 5) ∷ empty ∷ []
   pub left : map (λ f. leftBy f hashed2) (kept ∷ damaged ∷ repeated ∷ []) ≡ hashed2 ∷ blank ∷ blank ∷ []
   pub counted : cleared (kept ∷ damaged ∷ repeated ∷ kept ∷ damaged ∷ []) ≡ 3
+  -- a slot that did not change gives way to a record below it under its handle alone: not to one above it, nor to one that is damaged or has another handle
+  pub below : ¬ Beside 1 after7 0 after7 blank
+  pub a-record : ¬ Beside 0 worn7 1 after7 blank
+  pub its-handle : ¬ Beside 0 after9 1 after7 blank
   -- what the salvage of a table prints; the index has two digits from the eleventh slot on
   pub prints : map (λ c. salvageText (c .0)) printed ≡ map (λ c. text (c .2)) printed
   pub prints-table : map (λ c. tablePrinted (c .0)) printed ≡ map (λ c. c .1) printed
