@@ -21,9 +21,9 @@ extern "C" {
 
 /* The version of the library. */
 #define CAVERNLULL_VERSION_MAJOR 6
-#define CAVERNLULL_VERSION_MINOR 1
+#define CAVERNLULL_VERSION_MINOR 2
 #define CAVERNLULL_VERSION_PATCH 0
-#define CAVERNLULL_VERSION "6.1.0"
+#define CAVERNLULL_VERSION "6.2.0"
 
 /* Sizes in bytes, and the most slots and hashes (PROFILE 1.3). */
 enum {
@@ -38,8 +38,8 @@ enum {
     CAVERNLULL_LISTING_ROOM = 406 /* room for every listing */
 };
 
-/* The numbers that functions return. With every number but 0, all lent memory stays as it was. Beside these, `cavernlull_salvage`
- * alone returns 1 to 15, for so many slots cleared. */
+/* The numbers that functions return. With 101 and every number above it, all lent memory stays as it was, but for the change that
+ * `cavernlull_call_totalling` writes. Beside these, `cavernlull_salvage` alone returns 1 to 15, for so many slots cleared. */
 enum {
     CAVERNLULL_DONE = 0,
     CAVERNLULL_REPLY_BUFFER_SHORT = 101,
@@ -49,6 +49,7 @@ enum {
     CAVERNLULL_START_OUTSIDE = 105,
     CAVERNLULL_TALLY_DIFFERS = 106,
     CAVERNLULL_REPORT_BUFFER_SHORT = 107,
+    CAVERNLULL_TOTAL_OUTSIDE = 108,
     CAVERNLULL_WRITER_BUFFER_SHORT = 201,
     CAVERNLULL_WRITER_FIELDS = 202,
     CAVERNLULL_NO_REPLY = 203
@@ -124,6 +125,35 @@ struct cavernlull_tally {
  */
 uint16_t cavernlull_call(uint8_t *table, size_t table_length, struct cavernlull_tally *tally, size_t start,
                          const uint8_t *frame, size_t frame_length, uint8_t *reply, size_t reply_length);
+
+/* The most that one return can change a count, either way, and the most returns in a total (PROFILE 4.5). */
+enum {
+    CAVERNLULL_MOST_CHANGE = 65535,
+    CAVERNLULL_MOST_RETURNS = 30000
+};
+
+/* The totalling call (PROFILE 4.5): makes one call, as `cavernlull_call` does with the same arguments, and keeps a running total of
+ * what returns did to counts.
+ *
+ * A return is a Rights Enablement with status 0 of a record that was disabled. Its change is the count sent minus the count that was
+ * stored: below 0 where starts were used, above 0 where a device hands back more than it took. It is counted where the record and
+ * the request both keep a count, also where the change is 0. Every other call has the change 0, and is not counted: so does a return
+ * that is sent again, of a record that is enabled already.
+ *
+ * `total` is the sum of the changes so far, and `returns` says how many counted returns are in it. Both are 0 at first, and are carried
+ * from call to call. `change` is only written to: what it held makes no difference.
+ *
+ * Returns this number before everything that the call tests, and then makes no call and changes nothing at all, `change` included:
+ *   108 CAVERNLULL_TOTAL_OUTSIDE          `returns` is 30,000 or more, or `total` is more than 65,535 times `returns` above or
+ *                                         below 0. After 30,000 counted returns, note both numbers and begin again with 0 and 0
+ *
+ * Otherwise returns what `cavernlull_call` returns, with the same effect on `table`, `tally` and `reply`. With 0 it adds the change to
+ * `total`, adds 1 to `returns` if the call is a counted return, and writes the change to `change`. With every other number `total` and
+ * `returns` stay as they were, and `change` becomes 0.
+ */
+uint16_t cavernlull_call_totalling(uint8_t *table, size_t table_length, struct cavernlull_tally *tally, size_t start,
+                                   const uint8_t *frame, size_t frame_length, uint8_t *reply, size_t reply_length,
+                                   int32_t *total, uint16_t *returns, int32_t *change);
 
 /* Works out the tally of a table (PROFILE 2.8), for one who has a table and no tally. What `tally` held makes no difference.
  *
