@@ -1,4 +1,4 @@
--- PROFILE 1.3, 2.2, 4.1, 6.2 and 6.3: the profile's sizes, offsets and numbers, each said once.
+-- PROFILE 1.3, 2.2, 4.1, 4.5, 6.2 and 6.3: the profile's sizes, offsets and numbers, each said once.
 use Prim.Native.Nat.{ℕ}
 
 -- ---- sizes in bytes, and how many there may be
@@ -77,6 +77,16 @@ notAFrame = 104
 -- ---- the salvage's own number
 abbrev pub reportBufferShort : ℕ
 reportBufferShort = 107
+
+-- ---- the totalling call's own number; the most counted returns in a total, and the most that one of them can add or take off
+abbrev pub totalOutside : ℕ
+totalOutside = 108
+
+abbrev pub mostReturns : ℕ
+mostReturns = 30000
+
+abbrev pub mostChange : ℕ
+mostChange = 65535
 
 -- ---- numbers of the device's end: the request writer's two, and the reply reader's
 abbrev pub writerBufferShort : ℕ

@@ -17,6 +17,9 @@ pub const NO_FRAME: u16 = 104;
 // The salvage's own (PROFILE 2.10).
 pub const REPORT_BUFFER_SHORT: u16 = 107;
 
+// The totalling call's own (PROFILE 4.5).
+pub const TOTAL_OUTSIDE: u16 = 108;
+
 // The request writer's.
 pub const WRITER_BUFFER_SHORT: u16 = 201;
 

@@ -15,3 +15,8 @@ pub const KEY_BYTES: usize = 16;
 pub const HASH_BYTES: usize = 20;
 
 pub const MOST_HASHES: usize = 8;
+
+// A total has at most so many counted returns, and each adds or takes off at most so much (PROFILE 4.5).
+pub const MOST_RETURNS: u16 = 30000;
+
+pub const MOST_CHANGE: i32 = 65535;
