@@ -1,10 +1,11 @@
 -- All theorems of the profile, as the page specs/Theorems.antt states them.
 use mathlib.Core.Bool.{true}
 use Prim.Native.Nat.{_≤_}
-use mathlib.Core.Path.{_≡_}
+use mathlib.Core.Path.{_≡_, ap}
 use mathlib.Core.List.{List}
 use lib.ListN.{length}
 use Rattle.profile.specs.Slot.{Slot, distinct, TableFits}
+use Rattle.profile.specs.Total.{Totalled}
 use Rattle.profile.specs.Theorems.{Packs, Theorems}
 use Rattle.profile.proofs.Strings.{bytes-256}
 use Rattle.profile.proofs.Pack.{unpack-pack}
@@ -42,6 +43,9 @@ use Rattle.profile.proofs.TallyCases.{tallies-hold}
 use Rattle.profile.proofs.UnlistedCases.{unlisted-hold}
 use Rattle.profile.proofs.Unlisted.{in-use, when-lent, none-comes, all-have-one, by-course}
 use Rattle.profile.proofs.SalvageCases.{salvages-hold}
+use Rattle.profile.proofs.TotalCases.{totals-hold}
+use Rattle.profile.proofs.Total.{change-within, refused-return, refused-108, called, gives-108, change-unread, stays-within}
+use Rattle.profile.proofs.Totals.{totals-told, totals-blank}
 use Rattle.profile.proofs.Demand3.{demand-from, blank-ledger, demand-3}
 use Rattle.profile.proofs.Restart.{after-salvage, after-turning}
 use Rattle.profile.proofs.TallyLaws.{counts-all, tally-slot}
@@ -94,6 +98,15 @@ theorems =
       tally-stays = tally-stays;
       carries-on = carries-on;
       never-106 = never-106;
+      change-within = change-within;
+      refused-return = refused-return;
+      refused-108 = refused-108;
+      gives-108 = gives-108;
+      same-outcome = λ table c t was e. ap (λ (o : Totalled). o .outcome) (called table c t was e);
+      change-unread = change-unread;
+      stays-within = stays-within;
+      totals-told = totals-told;
+      totals-blank = totals-blank;
       first-empty = first-empty;
       first-only = first-only;
       none-empty = none-empty;
@@ -125,6 +138,7 @@ theorems =
       starts-hold = starts-hold;
       tallies-hold = tallies-hold;
       unlisted-hold = unlisted-hold;
+      totals-hold = totals-hold;
       demand-from = demand-from;
       after-salvage = after-salvage;
       after-turning = after-turning;

@@ -79,7 +79,7 @@ module _ (free : ℕ) (t : List Slot) (d : distinct t ≡ true) (i : ℕ) (h : B
 
 -- ---- PROFILE 8.6: slots, before and after
 -- what stands in a slot after one slot was set: what stood there, or what was set there
-set-at : (t : List Slot) (at i : ℕ) (s x : Slot) → getElem? (set t at s) i ≡ some x → (getElem? t i ≡ some x) ⊎ ((at ≡ i) × (s ≡ x))
+pub set-at : (t : List Slot) (at i : ℕ) (s x : Slot) → getElem? (set t at s) i ≡ some x → (getElem? t i ≡ some x) ⊎ ((at ≡ i) × (s ≡ x))
 set-at [] at i s x e = inl e
 set-at (y ∷ t) zero zero s x e = inr (refl, Option·some-injective s x e)
 set-at (y ∷ t) zero (suc i) s x e = inl e
@@ -95,7 +95,7 @@ stands-but : {t : List Slot} {i : ℕ} {r : Right} → HoldsRight t i r → Hold
 stands-but {r = r} w = record { count = r .count; stands = w }
 
 -- what was set, told by what stood there
-found-at : {t : List Slot} {h : Bytes} {e : Entry} {s : Slot} {u : List Slot} (d : Turns t h e s u) → getElem? t (d .at) ≡ some (taken h e)
+pub found-at : {t : List Slot} {h : Bytes} {e : Entry} {s : Slot} {u : List Slot} (d : Turns t h e s u) → getElem? t (d .at) ≡ some (taken h e)
 found-at {t} {h} {e} d = rw (d .found) at (found-is h t)
 
 module _ (t : List Slot) (r : Right) (bare : r .hashes ≡ []) (i : ℕ) where

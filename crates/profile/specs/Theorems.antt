@@ -7,6 +7,7 @@ use mathlib.Core.List.{List, [], map}
 use mathlib.Core.Option.{some}
 use mathlib.Core.Bool.{true, false}
 use lib.Dec.{T, eqb, ltb}
+use lib.IntN.{ℤ, natAbs}
 use lib.ListN.{length, drop, set, getElem?}
 use Rattle.profile.specs.Bytes.{Bytes, Bytes256, zeros, In, over, all, any, joined}
 use Rattle.profile.specs.Sizes.{slotSize, replyRoom}
@@ -35,11 +36,14 @@ use Rattle.profile.specs.DemandCases
 use Rattle.profile.specs.StartCases
 use Rattle.profile.specs.TallyCases
 use Rattle.profile.specs.UnlistedCases
+use Rattle.profile.specs.TotalCases
 use Rattle.profile.specs.Demand3.{Demand3From, Demand3}
 use Rattle.profile.specs.Starts.{AlikeButPlaces, OtherStart, OtherStarts, SameCall, SameRun}
 use Rattle.profile.specs.Tallies.{CountsAll, Carries}
 use Rattle.profile.specs.Unlisted.{OpenToUse, OpenToReturn, HoldsRight, HoldsRightBut, FoundByCourse}
 use Rattle.profile.specs.Salvages.{Salvages, Beside}
+use Rattle.profile.specs.Total.{noReturn, returnOf, changeOf, Totals, totalsHold, totalling}
+use Rattle.profile.specs.Totals.{Within, FrameBytes, TotalsTold, TotalsFrom}
 use Rattle.profile.specs.History.{blankLedger}
 use Rattle.profile.specs.Run.{numbersThen, blankTable, tableAfterAll, ledgerOf, ledgerThen}
 use Rattle.profile.specs.Laws.{Apart, Refuses, AStatus, FoundIs, Full, FirstEmpty, SetsFirst, ListsExactly}
@@ -150,6 +154,21 @@ pub record Theorems : Type 0 where
   -- carried along from a table's own tally it is never refused; so from an all-zero table of n slots with n, 0, 0, 0, 0
   pub carries-on : (table : Bytes) (cs : List Call) → Carries table (tallyIn table) cs → In 106 (numbersThen table cs) → ⊥
   pub never-106 : (n : ℕ) → 1 ≤ n → n ≤ 15 → (cs : List Call) → Carries (blankTable n) (tallyWith n 0 0 0 0) cs → In 106 (numbersThen (blankTable n) cs) → ⊥
+  -- PROFILE 8.7: the change of a call of bytes is at most 65,535 either way, and where the number is not 0 nothing is returned
+  pub change-within : (table : Bytes) → Bytes256 table → (c : Call) → Bytes256 (c .request) → natAbs (changeOf table c) ≤ 65535
+  pub refused-return : (table : Bytes) (c : Call) → eqb (agent table c .number) 0 ≡ false → returnOf table c ≡ noReturn
+  -- PROFILE 4.5: with 108 everything stays as it was, and it is given exactly where the totals do not hold; else the outcome is the call's, word for word; what
+  -- stands in the memory for the change makes no difference to anything else
+  pub refused-108 : (table : Bytes) (c : Call) (t : Totals) (was : ℤ) → totalsHold t ≡ false → totalling table c t was ≡ record { outcome = refuse 108 table c; totals = t; change = was }
+  pub gives-108 : (table : Bytes) (c : Call) (t : Totals) (was : ℤ) → (totalling table c t was .outcome .number ≡ 108) ↔ (totalsHold t ≡ false)
+  pub same-outcome : (table : Bytes) (c : Call) (t : Totals) (was : ℤ) → totalsHold t ≡ true → totalling table c t was .outcome ≡ agent table c
+  pub change-unread : (table : Bytes) (c : Call) (t : Totals) (a b : ℤ)
+      → (totalling table c t a .outcome ≡ totalling table c t b .outcome) × (totalling table c t a .totals ≡ totalling table c t b .totals)
+  -- PROFILE 8.7: totals within their bounds stay within them; along every sequence of totalling calls from 0 and 0 they are those that the ledger, the requests and
+  -- the statuses tell, and 108 comes with 30,000 counted returns: from every well-formed table with the ledger read off it, and from an all-zero one
+  pub stays-within : (table : Bytes) → Bytes256 table → (c : Call) → Bytes256 (c .request) → (t : Totals) (was : ℤ) → Within t → Within (totalling table c t was .totals)
+  pub totals-told : (table : Bytes) → Bytes256 table → wholeSlots table ≡ true → wellTable table ≡ true → (cs : List Call) → FrameBytes cs → TotalsFrom table cs
+  pub totals-blank : (n : ℕ) → 1 ≤ n → n ≤ 15 → (cs : List Call) → FrameBytes cs → TotalsTold blankLedger (blankTable n) cs
   -- PROFILE 5.1: the search from a start: the first empty slot on its way, if there is one, and no other; none exactly where every slot is taken, so
   -- from any two starts alike; from slot 0 the lowest
   pub first-empty : (start : ℕ) (t : List Slot) → start < length t → (Full t → ⊥) → FirstEmpty start t (firstEmptyFrom start t)
@@ -192,6 +211,7 @@ pub record Theorems : Type 0 where
   pub starts-hold : StartCases.Hold
   pub tallies-hold : TallyCases.Hold
   pub unlisted-hold : UnlistedCases.Hold
+  pub totals-hold : TotalCases.Hold
   -- PROFILE 8.3, of every well-formed table and every sequence of calls, from the ledger read off the table; so after a salvage and after a turning
   pub demand-from : (table : Bytes) → Bytes256 table → wholeSlots table ≡ true → wellTable table ≡ true → (cs : List Call) → Demand3From table cs
   pub after-salvage : (table report : Bytes) → Bytes256 table → wholeSlots table ≡ true → slotCount table ≤ length report → (cs : List Call) → Demand3From (salvage table report .table) cs
