@@ -1,6 +1,6 @@
 -- Every answer of the agent changes one slot at most, so that a tally is brought up to date by it. Assumes nothing.
 use Prim.Native.Nat.{ℕ, suc, _≤_, _<_}
-use mathlib.Core.Path.{_≡_, refl, sym, ap, _∙_}
+use mathlib.Core.Path.{_≡_, refl, sym}
 use mathlib.Core.Logic.{_⊎_, inl, inr}
 use mathlib.Core.List.{List}
 use mathlib.Core.Option.{some}
@@ -10,7 +10,7 @@ use lib.ListN.{length, set, getElem?}
 use Rattle.profile.specs.Bytes.{Bytes}
 use Rattle.profile.specs.Slot.{Right, Entry, reserved, enabled, disabled, Slot, empty, taken, TableFits}
 use Rattle.profile.specs.Table.{slotsOf, wholeSlots, wellTable}
-use Rattle.profile.specs.Tally.{Tally, tallyOf, tallyIn}
+use Rattle.profile.specs.Tally.{tallyOf}
 use Rattle.profile.specs.Request.{Request, setup, install, retrieve, rek, enable, remove, cancel, list, info, RequestFits}
 use Rattle.profile.specs.Agent.{Given, Answer, deny, done, Found, absent, one, find, act, tableAfter}
 use Rattle.profile.specs.Laws.{FoundIs}
@@ -93,10 +93,10 @@ module _ (table : Bytes) (whole : wholeSlots table ≡ true) (well : wellTable t
   pub follows : Follows t (act free t q)
   follows = follows-by (act free t q) (acts free t q)
 
-  -- it is that of the table's bytes afterwards
-  then-by : (a : Answer) → Answers free t q a → tallyOf (slotsThen t a) ≡ tallyIn (tableAfter table a)
+  -- these are the slots of the table's bytes afterwards
+  then-by : (a : Answer) → Answers free t q a → slotsThen t a ≡ slotsOf (tableAfter table a)
   then-by (deny r) d = refl
-  then-by (done g u) d = ap tallyOf (sym (slots-table u (done-fits g u d .0)))
+  then-by (done g u) d = sym (slots-table u (done-fits g u d .0))
 
-  pub then-tally : tallyOf (slotsThen t (act free t q)) ≡ tallyIn (tableAfter table (act free t q))
-  then-tally = then-by (act free t q) (acts free t q)
+  pub then-slots : slotsThen t (act free t q) ≡ slotsOf (tableAfter table (act free t q))
+  then-slots = then-by (act free t q) (acts free t q)

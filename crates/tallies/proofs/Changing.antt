@@ -14,9 +14,9 @@ use Rattle.profile.proofs.FirstEmpty.{not-there}
 use Rattle.profile.proofs.TallyLaws.{sum, sums, counts-all, tally-slot}
 use Rattle.slots.specs.Places.{placeNumber}
 use Rattle.tallies.specs.declared.update.Change.{Change}
-use Rattle.tallies.specs.declared.update.Change.the-variants.{Same, Moved}
+use Rattle.tallies.specs.declared.update.Change.the-variants.{Same}
 use Rattle.tallies.specs.Shares.{share, less, Within, Small}
-use Rattle.tallies.specs.Changes.{placeIn, lengthIn, changeIn, updated, Updates}
+use Rattle.tallies.specs.Changes.{placeIn, lengthIn, moved, changeIn, updated, Updates}
 use Rattle.tallies.proofs.Updating.{five}
 
 -- a slot counts for its place and its length
@@ -41,7 +41,7 @@ none-moved [] = refl
 none-moved (s ∷ t) = rw (eqb-true (placeNumber (placeIn s)) (placeNumber (placeIn s)) refl) (none-moved t)
 
 pub one-moved : (t : List Slot) (i : ℕ) (s x : Slot) → getElem? t i ≡ some s → (placeNumber (placeIn s) ≡ placeNumber (placeIn x) → ⊥)
-    → changeIn t (set t i x) ≡ Moved (placeIn s) (lengthIn s) (placeIn x) (lengthIn x)
+    → changeIn t (set t i x) ≡ moved s x
 unfolding changeIn
 one-moved [] i s x p n = absurd (not-there p)
 one-moved (y ∷ t) zero s x p n = rw (Option·some-injective y s p, other) refl
@@ -104,24 +104,37 @@ moved-tally t i s x p =
     (omega (arith, w .disabled, ap (λ (y : Tally). y .disabled) e))
     (omega (arith, w .payload, ap (λ (y : Tally). y .payload) e))
 
+-- what a slot that comes to another place is to a tally, whichever two places these are
+moved-updated : (t : Tally) (s x : Slot) → updated t (moved s x) ≡ plus (less t (inSlot s)) (inSlot x)
+moved-updated t empty x = rw (slot-share x) refl
+moved-updated t (taken h (reserved n)) x = rw (slot-share x) refl
+moved-updated t (taken h (enabled r)) x = rw (slot-share x) refl
+moved-updated t (taken h (disabled r)) empty = refl
+moved-updated t (taken h (disabled r)) (taken k (reserved n)) = refl
+moved-updated t (taken h (disabled r)) (taken k (enabled q)) = refl
+moved-updated t (taken h (disabled r)) (taken k (disabled q)) = refl
+
+moved-updates : (t : Tally) (s x : Slot) → Within (inSlot s) t → Small (updated t (moved s x)) → Updates t (moved s x)
+moved-updates t empty x w m = (w, m)
+moved-updates t (taken h (reserved n)) x w m = (w, m)
+moved-updates t (taken h (enabled r)) x w m = (w, m)
+moved-updates t (taken h (disabled r)) empty w m = (w, m)
+moved-updates t (taken h (disabled r)) (taken k (reserved n)) w m = (w, m)
+moved-updates t (taken h (disabled r)) (taken k (enabled q)) w m = (w, m)
+moved-updates t (taken h (disabled r)) (taken k (disabled q)) w m = (w, m)
+
 module _ (t u : List Slot) (o : OneSlot t u) where
   abbrev change : Change
-  change = Moved (placeIn (o .before)) (lengthIn (o .before)) (placeIn (o .after)) (lengthIn (o .after))
+  change = moved (o .before) (o .after)
 
   pub one-change : changeIn t u ≡ change
   one-change = rw (o .becomes) (one-moved t (o .at) (o .before) (o .after) (o .stands) (o .elsewhere))
 
   after-one : updated (tallyOf t) change ≡ tallyOf u
-  after-one = rw (← slot-share (o .before), ← slot-share (o .after), o .becomes) (moved-tally t (o .at) (o .before) (o .after) (o .stands))
+  after-one = moved-updated (tallyOf t) (o .before) (o .after) ∙ rw (o .becomes) (moved-tally t (o .at) (o .before) (o .after) (o .stands))
 
   pub one-updated : updated (tallyOf t) (changeIn t u) ≡ tallyOf u
   one-updated = rw one-change after-one
 
   pub one-updates : TableFits u → length u ≤ 15 → Updates (tallyOf t) (changeIn t u)
-  one-updates f few = rw one-change (within, small)
-    where
-      within : Within (share (placeIn (o .before)) (lengthIn (o .before))) (tallyOf t)
-      within = rw (← slot-share (o .before)) (counted t (o .at) (o .before) (o .stands))
-
-      small : Small (updated (tallyOf t) change)
-      small = rw after-one (tally-small u f few)
+  one-updates f few = rw one-change (moved-updates (tallyOf t) (o .before) (o .after) (counted t (o .at) (o .before) (o .stands)) (rw after-one (tally-small u f few)))

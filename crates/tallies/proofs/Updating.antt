@@ -2,11 +2,12 @@
 use Prim.Native.Nat.{ℕ, _+_, _-_, _≤_, _<_, _^_}
 use mathlib.Core.Path.{_≡_, refl, sym, ap, _∙_}
 use native.Mathlib.Omega.{arith}
+use Rattle.profile.specs.Slot.{Count}
 use Rattle.profile.specs.Tally.{Tally, tallyWith, plus}
 use Rattle.slots.specs.declared.place.Place.{Place}
 use Rattle.slots.specs.declared.place.Place.the-variants.{Empty, Reserved, Enabled, Disabled}
 use Rattle.tallies.specs.declared.update.Change.{Change}
-use Rattle.tallies.specs.declared.update.Change.the-variants.{Same, Moved}
+use Rattle.tallies.specs.declared.update.Change.the-variants.{Moved, Returned}
 use Rattle.tallies.specs.Shares.{share, less, Within, Small}
 use Rattle.tallies.specs.Changes.{updated, Updates}
 
@@ -77,3 +78,11 @@ module _ (t : Tally) (c : Change) (p q : Place) (m n : ℕ) (e : c ≡ Moved p m
 
 pub moves : (t : Tally) (c : Change) (p q : Place) (m n : ℕ) → c ≡ Moved p m q n → {l r : Tally} → l ≡ less t (share p m) → r ≡ plus l (share q n) → r ≡ updated t c
 moves t c p q m n e f g = rw e (g ∙ ap (λ (l : Tally). plus l (share q n)) f)
+
+-- a return counts as a move from disabled to enabled, whatever its counts
+module _ (t : Tally) (c : Change) (m n : ℕ) (a b : Count) (e : c ≡ Returned m a n b) where
+  pub return-updates : Updates t c → Updates t (Moved Disabled m Enabled n)
+  return-updates u = rw e at u
+
+  pub return-updated : {r : Tally} → r ≡ updated t (Moved Disabled m Enabled n) → r ≡ updated t c
+  return-updated f = rw e f

@@ -1,4 +1,5 @@
 // A tally brought up to date: the new numbers come from the old ones and the one slot that changed (PROFILE 2.8).
+use profile::Count;
 use profile::Tally;
 use slots::place::Place;
 ghost use mathlib.Core.Path.{_≡_};
@@ -6,10 +7,12 @@ ghost use Rattle.profile.specs.Tally.{plus};
 ghost use Rattle.tallies.specs.Shares.{share, less, Within, Small};
 ghost use Rattle.tallies.specs.Changes.{updated as updatedOf, Updates};
 
-// What a request did to the slots: none is in another place; or one is, with its place and length before and after.
+// What a request did to the slots: none is in another place; or one is, with its place and length before and after. Of a right that is
+// returned, from disabled to enabled, length and count are told, before and after (PROFILE 4.4).
 pub enum Change {
     Same,
     Moved(Place, u16, Place, u16),
+    Returned(u16, Count, u16, Count),
 }
 
 // The tally without a slot of this place and length. Only a right's length is in the sum: a reservation has no payload yet.
@@ -70,5 +73,8 @@ pub fn updated(t: Tally, change: Change) -> Tally
     match change {
         Change::Same => t,
         Change::Moved(was, length, is, size) => with(without(t, was, length), is, size),
+        Change::Returned(length, _, size, _) => {
+            with(without(t, Place::Disabled, length), Place::Enabled, size)
+        }
     }
 }
