@@ -8,8 +8,8 @@ use mathlib.Core.Option.{some}
 use lib.ListN.{length, drop, set, getElem?}
 use Rattle.profile.specs.Bytes.{Bytes, part, Bytes256}
 use Rattle.profile.specs.Sizes.{slotSize, payloadAt}
-use Rattle.profile.specs.Slot.{Right, Entry, reserved, enabled, disabled, Slot, taken}
-use Rattle.profile.specs.Table.{placeOf, handleOf, lengthOf, rightOf, slotsOf}
+use Rattle.profile.specs.Slot.{Count, Right, recount, Entry, reserved, enabled, disabled, Slot, empty, taken}
+use Rattle.profile.specs.Table.{placeOf, handleOf, countOf, lengthOf, rightOf, slotsOf}
 use Rattle.profile.specs.Frame.{notFound, duplicate, unexpected, code}
 use Rattle.profile.specs.Agent.{Answer, deny, one, find, whenFound}
 use Rattle.profile.proofs.Strings.{bytes-take, bytes-drop, length-part}
@@ -25,8 +25,8 @@ use Rattle.slots.proofs.Unpacking.{empty-taken, same-handle, unpack-empty, unpa
 use Rattle.tables.proofs.Records.{Standing, RecordAt, RecordFits, entryOf, absent-found, at-stands, record-at, record-fits, none-empty}
 use Rattle.changes.specs.Change.{slotAt, Has}
 use Rattle.changes.proofs.Standing.{taken-place}
-use Rattle.tallies.specs.declared.update.Change.the-variants.{Moved}
-use Rattle.tallies.specs.Changes.{placeIn, lengthIn, changeIn}
+use Rattle.tallies.specs.declared.update.Change.the-variants.{Moved, Returned}
+use Rattle.tallies.specs.Changes.{placeIn, lengthIn, movedLent, changeIn}
 use Rattle.tallies.proofs.Changing.{one-moved}
 use Rattle.decisions.specs.declared.decision.Takes.{Takes}
 use Rattle.decisions.specs.declared.decision.Decision.{Decision}
@@ -146,28 +146,45 @@ module _ (T B h : Bytes) (bytes : Bytes256 T) (r : Ready T B) (i : ℕ) where
 right-length : {s : Bytes} → RecordFits s → length (rightOf s .payload) ≡ lengthOf s
 right-length {s} f = length-part payloadAt (lengthOf s) s (omega (arith, f .sized, f .long .1))
 
+-- a lent right that comes to no enabled place
+lent-to : (r : Right) (x : Slot) → (placeIn x ≡ Enabled → ⊥) → movedLent r x ≡ Moved Disabled (length (r .payload)) (placeIn x) (lengthIn x)
+lent-to r empty n = refl
+lent-to r (taken h (reserved m)) n = refl
+lent-to r (taken h (enabled q)) n = absurd (n refl)
+lent-to r (taken h (disabled q)) n = refl
+
 module _ {T h : Bytes} {i : ℕ} where
   stands-there : {p : Place} → Held T h i p → getElem? (slotsOf T) i ≡ some (taken h (entryOf p (slotAt T i)))
   stands-there w = rw (w .found) at (found-is h (slotsOf T))
 
-  pub moved-from : (p : Place) → Held T h i p → (p ≡ Empty → ⊥) → (x : Slot) → (placeNumber p ≡ placeNumber (placeIn x) → ⊥)
+  -- but for a right that is returned
+  pub moved-from : (p : Place) → Held T h i p → (p ≡ Empty → ⊥) → (x : Slot) → (p ≡ Disabled → placeIn x ≡ Enabled → ⊥) → (placeNumber p ≡ placeNumber (placeIn x) → ⊥)
       → Moved p (lengthOf (slotAt T i)) (placeIn x) (lengthIn x) ≡ changeIn (slotsOf T) (set (slotsOf T) i x)
-  moved-from Empty w filled x n = absurd (filled refl)
-  moved-from Reserved w filled x n = sym (one-moved (slotsOf T) i _ x (stands-there w) n)
-  moved-from Enabled w filled x n =
+  moved-from Empty w filled x stays n = absurd (filled refl)
+  moved-from Reserved w filled x stays n = sym (one-moved (slotsOf T) i _ x (stands-there w) n)
+  moved-from Enabled w filled x stays n =
       ap (λ (m : ℕ). Moved Enabled m (placeIn x) (lengthIn x)) (sym (right-length (w .fits)))
       ∙ sym (one-moved (slotsOf T) i _ x (stands-there w) n)
-  moved-from Disabled w filled x n =
+  moved-from Disabled w filled x stays n =
       ap (λ (m : ℕ). Moved Disabled m (placeIn x) (lengthIn x)) (sym (right-length (w .fits)))
+      ∙ sym (lent-to (rightOf (slotAt T i)) x (stays refl))
       ∙ sym (one-moved (slotsOf T) i _ x (stands-there w) n)
 
-  -- a right that goes from one place to another with its payload
-  pub right-moves : (p : Place) → Held T h i p → (p ≡ Empty → ⊥) → (n : ℕ) → n ≡ lengthOf (slotAt T i) → (q : Place) (x : Slot)
-      → placeIn x ≡ q → lengthIn x ≡ length (rightOf (slotAt T i) .payload) → (placeNumber p ≡ placeNumber q → ⊥)
-      → Moved p n q n ≡ changeIn (slotsOf T) (set (slotsOf T) i x)
-  right-moves p w filled n e q x placed long other =
-      rw (e, ← placed)
-      (ap (λ (m : ℕ). Moved p (lengthOf (slotAt T i)) (placeIn x) m) (sym (long ∙ right-length (w .fits))) ∙ moved-from p w filled x (rw placed other))
+  -- a right that is lent with its payload, under another handle
+  pub lent-moves : Held T h i Enabled → (n : ℕ) → n ≡ lengthOf (slotAt T i) → (k : Bytes)
+      → Moved Enabled n Disabled n ≡ changeIn (slotsOf T) (set (slotsOf T) i (taken k (disabled (rightOf (slotAt T i)))))
+  lent-moves w n e k =
+      rw e
+      (ap (λ (m : ℕ). Moved Enabled (lengthOf (slotAt T i)) Disabled m) (sym (right-length (w .fits)))
+      ∙ moved-from Enabled w (λ q. omega (arith, ap placeNumber q)) (taken k (disabled (rightOf (slotAt T i)))) (λ q _. omega (arith, ap placeNumber q)) (λ q. omega (arith, q)))
+
+  -- a right that is returned with its payload, and with another count
+  pub return-moves : Held T h i Disabled → (n : ℕ) → n ≡ lengthOf (slotAt T i) → (stored : Count) → stored ≡ countOf (slotAt T i) → (k : Bytes) (sent : Count)
+      → Returned n stored n sent ≡ changeIn (slotsOf T) (set (slotsOf T) i (taken k (enabled (recount sent (rightOf (slotAt T i))))))
+  return-moves w n e stored f k sent =
+      rw (e, f)
+      (ap (λ (m : ℕ). Returned m (countOf (slotAt T i)) m sent) (sym (right-length (w .fits)))
+      ∙ sym (one-moved (slotsOf T) i _ _ (stands-there w) (λ q. omega (arith, q))))
 
 -- ---- the places that a request takes, where there is one only
 only-reserved : (p : Place) → takesPlace awaited p ≡ true → p ≡ Reserved

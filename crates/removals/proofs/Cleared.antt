@@ -36,9 +36,9 @@ module _ (w : Takes) (T h : Bytes) (i : ℕ) where
   -- the slot was counted at its place, and is empty then
   pub clear-moves : (o : Place) → Held T h i o × (takesPlace w o ≡ true) → (n : ℕ) → n ≡ lengthOf (slotAt T i) → Moved o n Empty 0 ≡ changeIn (slotsOf T) (set (slotsOf T) i empty)
   clear-moves Empty s n e = absurd (false≢true (s .1))
-  clear-moves Reserved s n e = rw e (moved-from Reserved (s .0) (λ q. omega (arith, ap placeNumber q)) empty (λ q. omega (arith, q)))
-  clear-moves Enabled s n e = rw e (moved-from Enabled (s .0) (λ q. omega (arith, ap placeNumber q)) empty (λ q. omega (arith, q)))
-  clear-moves Disabled s n e = rw e (moved-from Disabled (s .0) (λ q. omega (arith, ap placeNumber q)) empty (λ q. omega (arith, q)))
+  clear-moves Reserved s n e = rw e (moved-from Reserved (s .0) (λ q. omega (arith, ap placeNumber q)) empty (λ _ q. omega (arith, ap placeNumber q)) (λ q. omega (arith, q)))
+  clear-moves Enabled s n e = rw e (moved-from Enabled (s .0) (λ q. omega (arith, ap placeNumber q)) empty (λ _ q. omega (arith, ap placeNumber q)) (λ q. omega (arith, q)))
+  clear-moves Disabled s n e = rw e (moved-from Disabled (s .0) (λ q. omega (arith, ap placeNumber q)) empty (λ _ q. omega (arith, ap placeNumber q)) (λ q. omega (arith, q)))
 
 -- kind 6 takes a record that is installed, kind 7 one that is reserved
 module _ {T B T' B' : Bytes} {y : Change} (h : Bytes) where

@@ -28,7 +28,7 @@ use Rattle.decisions.specs.declared.decision.Decision.the-variants.{Refuse, Tak
 use Rattle.decisions.specs.Decisions.{takesPlace, lendable, installed, decided, unlessUsed}
 use Rattle.decisions.specs.Serving.{Ready, Serves, answerTo}
 use Rattle.decisions.proofs.Answers.{Denied}
-use Rattle.decisions.proofs.Deciding.{expects, refuses, Held, chosen-enabled, lending-refused, lending-decided, right-moves}
+use Rattle.decisions.proofs.Deciding.{expects, refuses, Held, chosen-enabled, lending-refused, lending-decided}
 use Rattle.rights.specs.Lending.{lentBy}
 
 -- ---- 3 and 4, by the decision d, whatever they give
@@ -54,11 +54,6 @@ module _ (T B h k : Bytes) (bytes : Bytes256 T) (r : Ready T B) (d : Decision) (
 
     pub lends : (give : Right → Given) → whenFound (find h (slotsOf T)) (lendAt (slotsOf T) k give) ≡ done (give (rightOf (slotAt T i))) (set (slotsOf T) i (taken k (disabled (rightOf (slotAt T i)))))
     lends give = rw (to-lend .found, free .0)
-
--- the right was enabled, and is lent with its payload
-pub lend-moves : (T h k : Bytes) (i : ℕ) → Held T h i Enabled → (n : ℕ) → n ≡ lengthOf (slotAt T i)
-    → Moved Enabled n Disabled n ≡ changeIn (slotsOf T) (set (slotsOf T) i (taken k (disabled (rightOf (slotAt T i)))))
-lend-moves T h k i w n e = right-moves Enabled w (λ q. omega (arith, ap placeNumber q)) n e Disabled _ refl refl (λ q. omega (arith, q))
 
 module _ {T B T' B' : Bytes} {y : Change} (h k : Bytes) where
   pub retrieved : Serves 3 (whenFound (find h (slotsOf T)) (lendAt (slotsOf T) k (lentBy 3))) T B T' B' y → Serves 3 (answerTo T (retrieve h k)) T B T' B' y
@@ -95,8 +90,3 @@ module _ (T h : Bytes) (c : Count) where
   returned i w =
       rw (w .found)
       (ap (λ (k : Bytes). done nothing (set (slotsOf T) i (taken k (enabled (recount c (rightOf (slotAt T i))))))) (sym (w .handle-is)))
-
-  -- the right was lent, and is enabled with its payload
-  pub return-moves : (i : ℕ) → Held T h i Disabled → (n : ℕ) → n ≡ lengthOf (slotAt T i)
-      → Moved Disabled n Enabled n ≡ changeIn (slotsOf T) (set (slotsOf T) i (taken (handleOf (slotAt T i)) (enabled (recount c (rightOf (slotAt T i))))))
-  return-moves i w n e = right-moves Disabled w (λ q. omega (arith, ap placeNumber q)) n e Enabled _ refl refl (λ q. omega (arith, q))

@@ -26,10 +26,12 @@ pub fn enable(table: &mut [u8], reply: &mut [u8], h: [u8; HANDLE_BYTES], count: 
                 reply_writer::writer::reply_status(reply, 5, SUCCESS);
                 return Change::Same;
             };
-            let length = words::word_at(tables::part::slot_at(table, i), LENGTH_AT);
+            let slot = tables::part::slot_at(table, i);
+            let length = words::word_at(slot, LENGTH_AT);
+            let stored = slots::head::count_of(slot);
             changes::give_back(table, i, count);
             reply_writer::writer::reply_status(reply, 5, SUCCESS);
-            Change::Moved(Place::Disabled, length, Place::Enabled, length)
+            Change::Returned(length, stored, length, count)
         }
     }
 }

@@ -53,7 +53,7 @@ module _ (T h : Bytes) (x : Right) where
 
     -- the slot was reserved, and holds the right then
     pub install-moves : (room size : ℕ) → room ≡ lengthOf (slotAt T i) → length (x .payload) ≡ size → Moved Reserved room Enabled size ≡ changeIn (slotsOf T) (set (slotsOf T) i (taken h (enabled x)))
-    install-moves room size e f = rw (e, ← f) (moved-from Reserved w (λ q. omega (arith, ap placeNumber q)) (taken h (enabled x)) (λ q. omega (arith, q)))
+    install-moves room size e f = rw (e, ← f) (moved-from Reserved w (λ q. omega (arith, ap placeNumber q)) (taken h (enabled x)) (λ q _. omega (arith, ap placeNumber q)) (λ q. omega (arith, q)))
 
 -- ---- 1, by its tests, whichever slot is the free one
 module _ (T h : Bytes) (n free : ℕ) where

@@ -3,15 +3,15 @@ use denote.Ref.{now}
 use mathlib.Core.Path.{_≡_, ap, _∙_}
 use mathlib.Core.Bool.{true}
 use Rattle.profile.specs.Bytes.{Bytes256}
-use Rattle.profile.specs.Table.{lengthOf}
+use Rattle.profile.specs.Table.{countOf, lengthOf}
 use Rattle.octets.proofs.ByteBounds.{below-256}
 use Rattle.changes.specs.Change.{slotAt}
 use Rattle.slots.specs.declared.place.Place.{Place}
 use Rattle.slots.specs.declared.place.Place.the-variants.{Disabled}
 use Rattle.decisions.specs.Decisions.{takesPlace, installed}
 use Rattle.decisions.proofs.Answers.{refused-serves, done-serves, kept-serves}
-use Rattle.decisions.proofs.Deciding.{Held, chosen}
-use Rattle.rights.proofs.Outcomes.{not-disabled, enable-refused, stays, returned, return-moves}
+use Rattle.decisions.proofs.Deciding.{Held, chosen, return-moves}
+use Rattle.rights.proofs.Outcomes.{not-disabled, enable-refused, stays, returned}
 use borrow.Author.Needs.{needs}
 use Rattle.rights.proofs.enable.enable.Statement.{statement}
 use Rattle.rights.proofs.enable.enable.Tie as tie
@@ -40,6 +40,12 @@ length-is : (r : tie.After-word-at)
     → r .word-at .result
     ≡ lengthOf (slotAt (now (start (r .before .before .before .before .before .before .before .before) .args .table)) (r .before .before .before .before .before .before .i .given .0 .0))
 length-is r = r .word-at .ensures ∙ ap lengthOf (r .before .slot-at .ensures .0 ∙ disabled (r .before .before .before) .lent)
+
+-- and its count
+count-is : (r : tie.After-count-of)
+    → r .count-of .result
+    ≡ countOf (slotAt (now (start (r .before .before .before .before .before .before .before .before .before) .args .table)) (r .before .before .before .before .before .before .before .i .given .0 .0))
+count-is r = r .count-of .ensures ∙ ap countOf (r .before .before .slot-at .ensures .0 ∙ disabled (r .before .before .before .before) .lent)
 
 slot-under-requires : tie.Need-slot-under-requires
 slot-under-requires c κs = search needs
@@ -79,9 +85,12 @@ slot-at-requires c κs = disabled (c .before) .has .inside
 word-at-requires : tie.Need-word-at-requires
 word-at-requires c κs = search needs
 
+count-of-requires : tie.Need-count-of-requires
+count-of-requires c κs = search needs
+
 give-back-requires : tie.Need-give-back-requires
 give-back-requires c κs =
-    let w = disabled (c .before .before .before .before) in
+    let w = disabled (c .before .before .before .before .before) in
     (w .has, w .place-is)
 
 reply-status-requires-3 : tie.Need-reply-status-requires-3
@@ -109,10 +118,11 @@ same-length-6 c = search needs
 returns-3 : tie.Need-returns-3
 returns-3 c =
     let changed = c .before .before .before .before .before .before in
-    let read = changed .before .before in
+    let kept = changed .before .before in
+    let read = kept .before in
     let told = read .before .before .before in
     let d = told .before .before .before .before .before in
-    done-serves (returned _ _ (start d .args .count) _ (disabled told)) (changed .give-back .ensures) (c .before .before .reply-status3 .ensures) (return-moves _ _ _ _ (disabled told) _ (length-is read))
+    done-serves (returned _ _ (start d .args .count) _ (disabled told)) (changed .give-back .ensures) (c .before .before .reply-status3 .ensures) (return-moves (disabled told) _ (length-is read) _ (count-is kept) _ (start d .args .count))
 
 pub enable-spec : {M : Type 1} → statement M
 enable-spec =
@@ -129,6 +139,7 @@ enable-spec =
     returns
     slot-at-requires
     word-at-requires
+    count-of-requires
     give-back-requires
     reply-status-requires-3
     same-length-3

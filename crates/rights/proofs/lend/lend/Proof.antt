@@ -10,9 +10,9 @@ use Rattle.octets.proofs.ByteBounds.{below-256}
 use Rattle.changes.specs.Change.{slotAt}
 use Rattle.slots.specs.declared.place.Place.the-variants.{Enabled}
 use Rattle.decisions.proofs.Answers.{refused-serves, done-serves}
-use Rattle.decisions.proofs.Deciding.{Held, fits-lent}
+use Rattle.decisions.proofs.Deciding.{Held, fits-lent, lent-moves}
 use Rattle.rights.specs.Lending.{lentBy}
-use Rattle.rights.proofs.Outcomes.{lend-refused, to-lend, lends, lend-moves}
+use Rattle.rights.proofs.Outcomes.{lend-refused, to-lend, lends}
 use borrow.Author.Needs.{needs}
 use Rattle.rights.proofs.lend.lend.Statement.{statement}
 use Rattle.rights.proofs.lend.lend.Tie as tie
@@ -97,7 +97,7 @@ returns-2 c =
     let a = start d .args in
     let given : Bytes → Bytes = λ s. over (frame (a .kind) (128 * givenBit (lentBy (a .kind) (rightOf s))) (writeGiven (lentBy (a .kind) (rightOf s)))) (now (a .reply)) in
     done-serves (lends _ _ _ _ (bytes d) (start d .pre .0) _ (d .slot-to-lend .ensures) _ _ (at .i .given .1) (lentBy (a .kind))) (changed .relabel .ensures)
-    (replied .reply-lent .ensures ∙ ap given (lent .slot-at .ensures .0 ∙ found at .lent)) (lend-moves _ _ _ _ (found at) _ (length-is read))
+    (replied .reply-lent .ensures ∙ ap given (lent .slot-at .ensures .0 ∙ found at .lent)) (lent-moves (found at) _ (length-is read) _)
 
 pub lend-spec : {M : Type 1} → statement M
 lend-spec =
