@@ -1,17 +1,25 @@
 -- From the frame's reading to the profile's agent: one law for each step of the call.
-use Prim.Native.Nat.{ℕ, _<_}
-use mathlib.Core.Path.{_≡_, sym, ap, _∙_}
-use mathlib.Core.Bool.{true}
+use Prim.Native.Nat.{ℕ, _<_, _≤_}
+use mathlib.Core.Path.{_≡_, refl, sym, ap, _∙_}
+use mathlib.Core.Bool.{Bool, true, false, not}
 use mathlib.Core.List.{List}
 use native.Mathlib.Omega.{arith}
-use Rattle.profile.specs.Bytes.{Bytes}
+use borrow.Author.Tests.{ne-eqb, lt-ltb}
+use lib.Dec.{eqb, leb, ltb}
+use lib.ListN.{length}
+use Rattle.profile.specs.Bytes.{Bytes, if_then_else_}
 use Rattle.profile.specs.Slot.{Slot}
-use Rattle.profile.specs.Table.{slotsOf, wholeSlots, wellTable}
-use Rattle.profile.specs.Tally.{Tally, tallyIn}
+use Rattle.profile.specs.Table.{slotCount, slotsOf, wholeSlots, wellTable}
+use Rattle.profile.specs.Tally.{Tally, tallyOf, tallyIn, sameTally}
 use Rattle.profile.specs.Frame.{kindNumber}
-use Rattle.profile.specs.Request.{Read, asks, numberOf, readRequest, RequestFits}
-use Rattle.profile.specs.Agent.{Call, tableAfter, obey, onBytes}
+use Rattle.profile.specs.Request.{retrieve, rek, Read, asks, numberOf, readRequest, RequestFits}
+use Rattle.profile.specs.Agent.{theRight, theKey, Answer, find, whenFound, lendAt, act, firstEmptyFrom, Call, Outcome, refuse, tableAfter, obey, onBytes, agent}
+use Rattle.profile.proofs.Logic.{if-cases, if-two, not-false, ltb-false, ltb-over, leb-true, leb-false, leb-over}
 use Rattle.profile.proofs.Lookup.{Free}
+use Rattle.profile.proofs.FirstEmpty.{first-free}
+use Rattle.profile.proofs.WellFormed.{count-slots}
+use Rattle.profile.proofs.TallyLaws.{same-tally-eq}
+use Rattle.profile.proofs.Numbers.{obeyed}
 use Rattle.profile.proofs.Frames.{Reads, reads}
 use Rattle.profile.proofs.Requests.{kind-number, read-fits}
 use Rattle.profile.proofs.Starts.{slot-unused}
@@ -22,11 +30,14 @@ use Rattle.request_reader.specs.declared.asked.Asked.{Asked}
 use Rattle.request_reader.specs.Answer.{Answers, whyMeans, bodyMeans}
 use Rattle.request_reader.proofs.ByCase.{says-no, says-yes}
 use Rattle.tallies.specs.declared.update.Change.{Change}
-use Rattle.tallies.specs.Changes.{updated, Updates}
-use Rattle.tallies.proofs.Answering.{Follows, follows, then-tally}
-use Rattle.decisions.specs.Serving.{Serves, answerAt, answerTo}
+use Rattle.tallies.specs.declared.update.Change.the-variants.{Same}
+use Rattle.tallies.specs.Changes.{slotsThen, changeIn, updated}
+use Rattle.tallies.proofs.Changing.{none-moved}
+use Rattle.tallies.proofs.Answering.{Follows, follows, then-slots}
+use Rattle.decisions.specs.Serving.{Ready, Serves, answerAt, answerTo}
 use Rattle.refusals.specs.Refusing.{Refuses}
-use Rattle.agent.specs.Call.{outcome, whyOf, Asks}
+use Rattle.rights.specs.Lending.{lentBy}
+use Rattle.agent.specs.Call.{outcome, callOf, lendsBy, whyOf, Asks, testsOf, Obeys}
 
 -- ---- a frame that is no request
 pub why-means : (f : Bytes) (r : Asked) → Answers f r → (w x : Why) → r .ask ≡ No w → x ≡ whyOf (r .ask) → whyMeans x ≡ readRequest f
@@ -62,20 +73,139 @@ module _ {f : Bytes} {r : Asked} {b : Body} (a : Asks f r b) where
   fits : RequestFits (bodyMeans f b r)
   fits = read-fits f (bodyMeans f b r) (rw reads-as at (reads f))
 
-  -- the tally is that of the table, and what the answer changed can be taken into it
-  module _ (free : ℕ) {table buffer table' buffer' : Bytes} {y : Change} (whole : wholeSlots table ≡ true) (well : wellTable table ≡ true) (z : Free free (slotsOf table)) (c : Call)
-      (lent : c .tally ≡ tallyIn table) (s : Serves (kindNumber f) (answerAt free table (bodyMeans f b r)) table buffer table' buffer' y) where
-    follows-change : Follows (slotsOf table) (answerAt free table (bodyMeans f b r))
-    follows-change = follows table whole well free z (bodyMeans f b r) fits
+  -- what the answer changed can be taken into the tally of the table, and brings it up to date
+  module _ (start : ℕ) {table buffer table' buffer' : Bytes} {y : Change} (whole : wholeSlots table ≡ true) (well : wellTable table ≡ true) (inside : start < slotCount table)
+      (s : Serves (kindNumber f) (answerAt (firstEmptyFrom start (slotsOf table)) table (bodyMeans f b r)) table buffer table' buffer' y) where
+    abbrev free : ℕ
+    free = firstEmptyFrom start (slotsOf table)
 
-    pub may-update : Updates (c .tally) y
-    may-update = rw (lent, s .change-is) (follows-change .updates)
+    abbrev answer : Answer
+    answer = answerAt free table (bodyMeans f b r)
 
-    is-updated : updated (c .tally) y ≡ tallyIn (tableAfter table (answerAt free table (bodyMeans f b r)))
-    is-updated = rw (lent, s .change-is) (follows-change .is-tally ∙ then-tally table whole well free z (bodyMeans f b r) fits)
+    is-free : Free free (slotsOf table)
+    is-free = first-free start (slotsOf table) (rw (count-slots table whole well) inside)
 
-    pub obeys : c .buffer ≡ buffer → (tally' : Tally) → tally' ≡ updated (c .tally) y
-        → outcome 0 buffer' table' tally' ≡ onBytes (kindNumber f) (obey (readRequest f) free (slotsOf table)) table c
-    obeys e tally' u =
-        rw (reads-as, e)
-        (λ i. outcome 0 (s .reply-is i) (s .table-is i) ((u ∙ is-updated) i))
+    follows-change : Follows (slotsOf table) answer
+    follows-change = follows table whole well free is-free (bodyMeans f b r) fits
+
+    slots-then : slotsThen (slotsOf table) answer ≡ slotsOf (tableAfter table answer)
+    slots-then = then-slots table whole well free is-free (bodyMeans f b r) fits
+
+    pub obeys : Obeys table start f buffer table' buffer' 0 y
+    obeys =
+        record {
+          is = rw reads-as (λ i. outcome 0 (s .reply-is i) (s .table-is i) (is-updated i));
+          changed = s .change-is ∙ ap (changeIn (slotsOf table)) (slots-then ∙ ap slotsOf (sym (s .table-is)));
+          updates = rw (s .change-is) (follows-change .updates);
+        }
+      where
+        is-updated : updated (tallyIn table) y ≡ tallyIn (tableAfter table answer)
+        is-updated = rw (s .change-is) (follows-change .is-tally ∙ ap tallyOf slots-then)
+
+-- ---- a frame that is no request, on a well-formed table
+pub refused-obeys : (f : Bytes) (w : Why) (buffer : Bytes) (n : ℕ) (buffer' : Bytes) → Refuses f w buffer n buffer' → whyMeans w ≡ readRequest f
+    → (table : Bytes) (start : ℕ) → Obeys table start f buffer table buffer' n Same
+refused-obeys f w buffer n buffer' s e table start =
+    record {
+      is = refusal-obeys f w buffer n buffer' s e (firstEmptyFrom start (slotsOf table)) (slotsOf table) table (callOf (tallyIn table) start f buffer) refl refl;
+      changed = sym (none-moved (slotsOf table));
+      updates = tt;
+    }
+
+-- ---- kinds 3 and 4
+pub lent-as : (kind : ℕ) (h k : Bytes) {table buffer table' buffer' : Bytes} {y : Change}
+    → Serves kind (whenFound (find h (slotsOf table)) (lendAt (slotsOf table) k (lentBy kind))) table buffer table' buffer' y
+    → Serves kind (answerTo table (lendsBy kind h k)) table buffer table' buffer' y
+unfolding act
+lent-as kind h k {table} {buffer} {table'} {buffer'} {y} = go (eqb kind 3)
+  where
+    go : (b : Bool) → Serves kind (whenFound (find h (slotsOf table)) (lendAt (slotsOf table) k (λ r. if b then theRight r else theKey (r .key)))) table buffer table' buffer' y
+        → Serves kind (answerTo table (if b then retrieve h k else rek h k)) table buffer table' buffer' y
+    go true s = s
+    go false s = s
+
+-- ---- the tests before the frame, one after another
+module _ (table : Bytes) (tally : Tally) (start : ℕ) (buffer : Bytes) where
+  pub tests-101 : length buffer < 4279 → 101 ≡ testsOf table tally start buffer
+  unfolding testsOf
+  tests-101 h = rw (lt-ltb (length buffer) 4279 h) refl
+
+  module _ (long : 4279 ≤ length buffer) where
+    pub tests-102 : wholeSlots table ≡ false → 102 ≡ testsOf table tally start buffer
+    unfolding testsOf
+    tests-102 e = rw (ltb-false (length buffer) 4279 long, e) refl
+
+    module _ (whole : wholeSlots table ≡ true) where
+      pub tests-105 : slotCount table ≤ start → 105 ≡ testsOf table tally start buffer
+      unfolding testsOf
+      tests-105 h = rw (ltb-false (length buffer) 4279 long, whole, leb-true (slotCount table) start h) refl
+
+      module _ (inside : start < slotCount table) where
+        pub tests-103 : wellTable table ≡ false → 103 ≡ testsOf table tally start buffer
+        unfolding testsOf
+        tests-103 e = rw (ltb-false (length buffer) 4279 long, whole, leb-false (slotCount table) start inside, e) refl
+
+        module _ (well : wellTable table ≡ true) where
+          pub tests-106 : sameTally tally (tallyIn table) ≡ false → 106 ≡ testsOf table tally start buffer
+          unfolding testsOf
+          tests-106 e = rw (ltb-false (length buffer) 4279 long, whole, leb-false (slotCount table) start inside, well, e) refl
+
+          pub tests-0 : sameTally tally (tallyIn table) ≡ true → 0 ≡ testsOf table tally start buffer
+          unfolding testsOf
+          tests-0 e = rw (ltb-false (length buffer) 4279 long, whole, leb-false (slotCount table) start inside, well, e) refl
+
+-- they are those of the agent
+by-tests : (table : Bytes) (tally : Tally) (start : ℕ) (frame buffer : Bytes)
+    → agent table (callOf tally start frame buffer)
+    ≡ (if eqb (testsOf table tally start buffer) 0 then obeyed table (callOf tally start frame buffer) else refuse (testsOf table tally start buffer) table (callOf tally start frame buffer))
+unfolding agent testsOf
+by-tests table tally start frame buffer =
+    if-two P (ltb (length buffer) 4279) refl λ _.
+    if-two P (not (wholeSlots table)) refl λ _.
+    if-two P (leb (slotCount table) start) refl λ _.
+    if-two P (not (wellTable table)) refl λ _.
+    if-two P (not (sameTally tally (tallyIn table))) refl λ _. refl
+  where
+    P : Outcome → ℕ → Type 0
+    P o n = o ≡ (if eqb n 0 then obeyed table (callOf tally start frame buffer) else refuse n table (callOf tally start frame buffer))
+
+-- where none fails
+pub record Passed (table : Bytes) (tally : Tally) (start : ℕ) (buffer : Bytes) : Type 0 where
+  pub ready : Ready table buffer
+  pub inside : start < slotCount table
+  pub lent : tally ≡ tallyIn table
+
+pub passed : (table : Bytes) (tally : Tally) (start : ℕ) (buffer : Bytes) → testsOf table tally start buffer ≡ 0 → Passed table tally start buffer
+unfolding testsOf
+passed table tally start buffer =
+    if-cases P (ltb (length buffer) 4279) (λ _ z. absurd (omega (arith, z))) λ long.
+    if-cases P (not (wholeSlots table)) (λ _ z. absurd (omega (arith, z))) λ whole.
+    if-cases P (leb (slotCount table) start) (λ _ z. absurd (omega (arith, z))) λ inside.
+    if-cases P (not (wellTable table)) (λ _ z. absurd (omega (arith, z))) λ well.
+    if-cases P (not (sameTally tally (tallyIn table))) (λ _ z. absurd (omega (arith, z))) λ same _.
+    record {
+      ready = record { whole = not-false (wholeSlots table) whole; well = not-false (wellTable table) well; room = ltb-over (length buffer) 4279 long };
+      inside = leb-over (slotCount table) start inside;
+      lent = same-tally-eq tally (tallyIn table) (not-false (sameTally tally (tallyIn table)) same);
+    }
+  where
+    P : ℕ → Type 0
+    P n = n ≡ 0 → Passed table tally start buffer
+
+-- ---- the call, outcome by outcome
+module _ (table : Bytes) (tally : Tally) (start : ℕ) (frame buffer : Bytes) where
+  pub given-back : (n : ℕ) → n ≡ testsOf table tally start buffer → (n ≡ 0 → ⊥) → outcome n buffer table tally ≡ agent table (callOf tally start frame buffer)
+  given-back n e z = sym (by-tests table tally start frame buffer ∙ rw (← e, ne-eqb n 0 z) refl)
+
+  pub answered : (n : ℕ) → n ≡ testsOf table tally start buffer → n ≡ 0 → {table' buffer' : Bytes} {m : ℕ} {y : Change} → Obeys table start frame buffer table' buffer' m y
+      → (tally' : Tally) → tally' ≡ updated tally y → outcome m buffer' table' tally' ≡ agent table (callOf tally start frame buffer)
+  answered n e z {table'} {buffer'} {m} {y} o tally' u = here ∙ sym there
+    where
+      lent : tally ≡ tallyIn table
+      lent = passed table tally start buffer (sym e ∙ z) .lent
+
+      here : outcome m buffer' table' tally' ≡ obeyed table (callOf (tallyIn table) start frame buffer)
+      here = ap (outcome m buffer' table') (u ∙ ap (λ (x : Tally). updated x y) lent) ∙ o .is
+
+      there : agent table (callOf tally start frame buffer) ≡ obeyed table (callOf (tallyIn table) start frame buffer)
+      there = by-tests table tally start frame buffer ∙ rw (← e, z) (ap (λ (x : Tally). obeyed table (callOf x start frame buffer)) lent)

@@ -1,9 +1,16 @@
 -- A call by its parts, and what its steps promise.
 use Prim.Native.Nat.{ℕ}
 use mathlib.Core.Path.{_≡_}
-use Rattle.profile.specs.Bytes.{Bytes}
-use Rattle.profile.specs.Tally.{Tally}
-use Rattle.profile.specs.Agent.{Call, Outcome}
+use mathlib.Core.Bool.{not}
+use lib.Dec.{eqb, leb, ltb}
+use lib.ListN.{length}
+use Rattle.profile.specs.Bytes.{Bytes, if_then_else_}
+use Rattle.profile.specs.Sizes.{replyRoom, replyBufferShort, tableLength, startOutside, tableNotWellFormed, tallyDiffers}
+use Rattle.profile.specs.Table.{slotCount, slotsOf, wholeSlots, wellTable}
+use Rattle.profile.specs.Tally.{Tally, tallyIn, sameTally}
+use Rattle.profile.specs.Frame.{kindNumber}
+use Rattle.profile.specs.Request.{Request, retrieve, rek, readRequest}
+use Rattle.profile.specs.Agent.{Call, Outcome, firstEmptyFrom, obey, onBytes}
 use Rattle.request_reader.specs.declared.asked.Why.{Why}
 use Rattle.request_reader.specs.declared.asked.Why.the-variants.{NoFrame}
 use Rattle.request_reader.specs.declared.asked.Body.{Body}
@@ -11,6 +18,8 @@ use Rattle.request_reader.specs.declared.asked.Ask.{Ask}
 use Rattle.request_reader.specs.declared.asked.Ask.the-variants.{No, Yes}
 use Rattle.request_reader.specs.declared.asked.Asked.{Asked}
 use Rattle.request_reader.specs.Answer.{Answers}
+use Rattle.tallies.specs.declared.update.Change.{Change}
+use Rattle.tallies.specs.Changes.{changeIn, updated, Updates}
 
 -- the number, and the reply buffer, the table and the tally afterwards
 abbrev pub outcome : ℕ → Bytes → Bytes → Tally → Outcome
@@ -19,6 +28,10 @@ outcome n reply table tally = record { number = n; reply = reply; table = table;
 -- a call with this tally, from this start, with this frame and this reply buffer
 abbrev pub callOf : Tally → ℕ → Bytes → Bytes → Call
 callOf tally start frame buffer = record { tally = tally; start = start; request = frame; buffer = buffer }
+
+-- kinds 3 and 4, by their number
+abbrev pub lendsBy : ℕ → Bytes → Bytes → Request
+lendsBy kind h k = if eqb kind 3 then retrieve h k else rek h k
 
 -- why an answer is no request
 abbrev pub whyOf : Ask → Why
@@ -29,3 +42,21 @@ whyOf (Yes b) = NoFrame
 pub record Asks (f : Bytes) (r : Asked) (b : Body) : Type 0 where
   pub answers : Answers f r
   pub yes : r .ask ≡ Yes b
+
+-- PROFILE 4.1: the number of the tests that come before the frame, or 0 where none fails
+unfoldable pub testsOf : Bytes → Tally → ℕ → Bytes → ℕ
+testsOf table tally start buffer =
+    if ltb (length buffer) replyRoom then replyBufferShort
+    else if not (wholeSlots table) then tableLength
+    else if leb (slotCount table) start then startOutside
+    else if not (wellTable table) then tableNotWellFormed
+    else if not (sameTally tally (tallyIn table)) then tallyDiffers
+    else 0
+
+-- what is done with a frame on a well-formed table: number, reply buffer and table are the profile's, and so is the tally that follows from the change, which is
+-- the one from the slots before to those after, and can be taken into the tally
+pub record Obeys (table : Bytes) (start : ℕ) (frame buffer table' buffer' : Bytes) (n : ℕ) (change : Change) : Type 0 where
+  pub is : outcome n buffer' table' (updated (tallyIn table) change)
+      ≡ onBytes (kindNumber frame) (obey (readRequest frame) (firstEmptyFrom start (slotsOf table)) (slotsOf table)) table (callOf (tallyIn table) start frame buffer)
+  pub changed : change ≡ changeIn (slotsOf table) (slotsOf table')
+  pub updates : Updates (tallyIn table) change

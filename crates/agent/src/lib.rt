@@ -18,15 +18,14 @@ use request_reader::asked::Why;
 use tallies::update::Change;
 ghost use mathlib.Core.Path.{_≡_};
 ghost use lib.ListN.{length};
-ghost use Prim.Native.Nat.{_<_};
+ghost use Prim.Native.Nat.{_<_, _≤_};
 ghost use Rattle.profile.specs.Table.{slotCount, slotsOf};
-ghost use Rattle.profile.specs.Tally.{tallyIn};
 ghost use Rattle.profile.specs.Frame.{kindNumber};
-ghost use Rattle.profile.specs.Request.{readRequest, retrieve as retrieval, rek};
-ghost use Rattle.profile.specs.Agent.{agent, obey, onBytes, firstEmptyFrom};
+ghost use Rattle.profile.specs.Agent.{agent, firstEmptyFrom};
+ghost use Rattle.tallies.specs.Changes.{changeIn};
 ghost use Rattle.request_reader.specs.Answer.{bodyMeans};
 ghost use Rattle.decisions.specs.Serving.{Ready, Serves, answerAt, answerTo};
-ghost use Rattle.agent.specs.Call.{outcome, callOf, whyOf, Asks};
+ghost use Rattle.agent.specs.Call.{outcome, callOf, whyOf, lendsBy, Asks, Obeys, testsOf};
 
 // Why an answer is no request.
 fn why_of(ask: Ask) -> Why
@@ -38,24 +37,14 @@ fn why_of(ask: Ask) -> Why
     why
 }
 
-// Kind 3. Kinds 3 and 4 are functions of their own so that their handles are no locals of `serve`: those would take stack in every call.
-fn retrieve(table: &mut [u8], reply: &mut [u8], asked: Asked) -> Change
-    requires { ⌜ Ready (now table) (now reply) ⌝ }
-    ensures { λ r. ⌜ Serves 3 (answerTo (now (table .entry)) (retrieval (asked .handle) (asked .new))) (now (table .entry)) (now (reply .entry)) (now (table .exit)) (now (reply .exit)) r ⌝ }
+// Kinds 3 and 4, by their number. The handles are locals of this function and not of `serve`: there they would take stack in every call.
+fn lend(table: &mut [u8], reply: &mut [u8], asked: Asked, kind: u8) -> Change
+    requires { ⌜ Ready (now table) (now reply) × (3 ≤ kind) × (kind ≤ 4) ⌝ }
+    ensures { λ r. ⌜ Serves kind (answerTo (now (table .entry)) (lendsBy kind (asked .handle) (asked .new))) (now (table .entry)) (now (reply .entry)) (now (table .exit)) (now (reply .exit)) r ⌝ }
 {
     let h = asked.handle;
     let k = asked.new;
-    rights::lend::lend(table, reply, h, k, 3)
-}
-
-// Kind 4.
-fn query_key(table: &mut [u8], reply: &mut [u8], asked: Asked) -> Change
-    requires { ⌜ Ready (now table) (now reply) ⌝ }
-    ensures { λ r. ⌜ Serves 4 (answerTo (now (table .entry)) (rek (asked .handle) (asked .new))) (now (table .entry)) (now (reply .entry)) (now (table .exit)) (now (reply .exit)) r ⌝ }
-{
-    let h = asked.handle;
-    let k = asked.new;
-    rights::lend::lend(table, reply, h, k, 4)
+    rights::lend::lend(table, reply, h, k, kind)
 }
 
 // What a request does, kind by kind, and what it changed. Each takes from what was read the fields that it has; only a setup takes the start.
@@ -70,64 +59,91 @@ fn serve(
     requires { ⌜ Ready (now table) (now reply) × (start < slotCount (now table)) × Asks (now frame) asked body ⌝ }
     ensures { λ r. ⌜ Serves (kindNumber (now (frame .entry))) (answerAt (firstEmptyFrom start (slotsOf (now (table .entry)))) (now (table .entry)) (bodyMeans (now (frame .entry)) body asked)) (now (table .entry)) (now (reply .entry)) (now (table .exit)) (now (reply .exit)) r ⌝ }
 {
-    match body {
+    let kind = match body {
         Body::Setup { length } => {
             let h = asked.handle;
-            setups::setup::set_up(table, start, reply, h, length)
+            return setups::setup::set_up(table, start, reply, h, length);
         }
         Body::Install { hashes, at, length } => {
             let h = asked.handle;
             let key = asked.key;
             let count = asked.count;
-            setups::install::install(table, reply, h, key, count, hashes, frame, at, length)
+            return setups::install::install(table, reply, h, key, count, hashes, frame, at, length);
         }
-        Body::Retrieve => retrieve(table, reply, asked),
-        Body::Rek => query_key(table, reply, asked),
+        Body::Retrieve => 3,
+        Body::Rek => 4,
         Body::Enable => {
             let h = asked.handle;
             let count = asked.count;
-            rights::enable::enable(table, reply, h, count)
+            return rights::enable::enable(table, reply, h, count);
         }
         Body::Remove => {
             let h = asked.handle;
-            removals::clear(table, reply, h, 6, INSTALLED)
+            return removals::clear(table, reply, h, 6, INSTALLED);
         }
         Body::Cancel => {
             let h = asked.handle;
-            removals::clear(table, reply, h, 7, AWAITED)
+            return removals::clear(table, reply, h, 7, AWAITED);
         }
         Body::List { limit, hashes, at } => {
             queries::handle_list(table, reply, limit, hashes, frame, at);
-            Change::Same
+            return Change::Same;
         }
         Body::Info => {
             let h = asked.handle;
             queries::info(table, reply, h);
-            Change::Same
+            return Change::Same;
         }
-    }
+    };
+    lend(table, reply, asked, kind)
 }
 
-// On a well-formed table, with its tally: 104, a status, or what the request does. The tally is brought up to date by what it changed.
-fn answer(table: &mut [u8], tally: Tally, start: usize, frame: &[u8], reply: &mut [u8]) -> Tallied
-    requires { ⌜ Ready (now table) (now reply) × (start < slotCount (now table)) × (tally ≡ tallyIn (now table)) ⌝ }
-    ensures { λ r. ⌜ outcome (r .number) (now (reply .exit)) (now (table .exit)) (r .tally) ≡ onBytes (kindNumber (now (frame .entry))) (obey (readRequest (now (frame .entry))) (firstEmptyFrom start (slotsOf (now (table .entry)))) (slotsOf (now (table .entry)))) (now (table .entry)) (callOf tally start (now (frame .entry)) (now (reply .entry))) ⌝ }
+// On a well-formed table: 104, or 0 with a status or what the request does; and what it did to the slots.
+struct Answered {
+    number: u16,
+    change: Change,
+}
+
+fn answer(table: &mut [u8], start: usize, frame: &[u8], reply: &mut [u8]) -> Answered
+    requires { ⌜ Ready (now table) (now reply) × (start < slotCount (now table)) ⌝ }
+    ensures { λ r. ⌜ Obeys (now (table .entry)) start (now (frame .entry)) (now (reply .entry)) (now (table .exit)) (now (reply .exit)) (r .number) (r .change) ⌝ }
 {
     let asked = request_reader::reader::read_request(frame);
     let ask = asked.ask;
     let Ask::Yes(body) = ask else {
         let number = refusals::refuse(frame, reply, why_of(ask));
-        return Tallied {
+        return Answered {
             number: number,
-            tally: tally,
+            change: Change::Same,
         };
     };
     let change = serve(table, start, frame, reply, asked, body);
-    let after = tallies::update::updated(tally, change);
-    Tallied {
+    Answered {
         number: DONE,
-        tally: after,
+        change: change,
     }
+}
+
+// 101, 102, 105, 103 and 106, tested in this order; 0 where none of them is given (PROFILE 4.1).
+fn tested(table: &[u8], tally: Tally, start: usize, reply: &[u8]) -> u16
+    ensures { λ r. ⌜ r ≡ testsOf (now (table .entry)) tally start (now (reply .entry)) ⌝ }
+{
+    if reply.len() < REPLY_ROOM {
+        return REPLY_BUFFER_SHORT;
+    }
+    if !tables::part::whole_slots(table) {
+        return TABLE_LENGTH;
+    }
+    if table.len() / SLOT_BYTES <= start {
+        return START_OUTSIDE;
+    }
+    if !tables::table::well_table(table) {
+        return TABLE_NOT_WELL_FORMED;
+    }
+    if !tallies::count::same(tally, tallies::count::tally_of(table)) {
+        return TALLY_DIFFERS;
+    }
+    DONE
 }
 
 // PROFILE 4.1. 101, 102, 105, 103, 106 and 104, tested in this order and with nothing changed; otherwise 0, the reply, the new table and
@@ -136,35 +152,54 @@ fn answer(table: &mut [u8], tally: Tally, start: usize, frame: &[u8], reply: &mu
 pub fn call(table: &mut [u8], tally: Tally, start: usize, frame: &[u8], reply: &mut [u8]) -> Tallied
     ensures { λ r. ⌜ outcome (r .number) (now (reply .exit)) (now (table .exit)) (r .tally) ≡ agent (now (table .entry)) (callOf tally start (now (frame .entry)) (now (reply .entry))) ⌝ }
 {
-    if reply.len() < REPLY_ROOM {
+    let number = tested(table, tally, start, reply);
+    if number != DONE {
         return Tallied {
-            number: REPLY_BUFFER_SHORT,
+            number: number,
             tally: tally,
         };
     }
-    if !tables::part::whole_slots(table) {
-        return Tallied {
-            number: TABLE_LENGTH,
+    let answered = answer(table, start, frame, reply);
+    let change = answered.change;
+    let after = tallies::update::updated(tally, change);
+    Tallied {
+        number: answered.number,
+        tally: after,
+    }
+}
+
+// What a call gives by value: its number, the tally afterwards, and what it did to the slots.
+pub struct Called {
+    pub number: u16,
+    pub tally: Tally,
+    pub change: Change,
+}
+
+// The call, which also tells what it did to the slots. It takes the same steps as `call`, so that neither stands on the stack above the other.
+pub fn call_and_tell(
+    table: &mut [u8],
+    tally: Tally,
+    start: usize,
+    frame: &[u8],
+    reply: &mut [u8],
+) -> Called
+    ensures calls { λ r. ⌜ outcome (r .number) (now (reply .exit)) (now (table .exit)) (r .tally) ≡ agent (now (table .entry)) (callOf tally start (now (frame .entry)) (now (reply .entry))) ⌝ }
+    ensures tells { λ r. ⌜ r .change ≡ changeIn (slotsOf (now (table .entry))) (slotsOf (now (table .exit))) ⌝ }
+{
+    let number = tested(table, tally, start, reply);
+    if number != DONE {
+        return Called {
+            number: number,
             tally: tally,
+            change: Change::Same,
         };
     }
-    if table.len() / SLOT_BYTES <= start {
-        return Tallied {
-            number: START_OUTSIDE,
-            tally: tally,
-        };
+    let answered = answer(table, start, frame, reply);
+    let change = answered.change;
+    let after = tallies::update::updated(tally, change);
+    Called {
+        number: answered.number,
+        tally: after,
+        change: change,
     }
-    if !tables::table::well_table(table) {
-        return Tallied {
-            number: TABLE_NOT_WELL_FORMED,
-            tally: tally,
-        };
-    }
-    if !tallies::count::same(tally, tallies::count::tally_of(table)) {
-        return Tallied {
-            number: TALLY_DIFFERS,
-            tally: tally,
-        };
-    }
-    answer(table, tally, start, frame, reply)
 }

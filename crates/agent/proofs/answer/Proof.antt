@@ -1,31 +1,18 @@
 -- `agent::answer` meets its contract: the frame is refused, or its request is served. Assumes nothing.
 use denote.Ref.{now}
-use mathlib.Core.Path.{_≡_, refl}
+use mathlib.Core.Path.{_≡_}
 use borrow.Author.Needs.{needs}
-use Rattle.profile.specs.Table.{slotsOf}
 use Rattle.profile.specs.Request.{readRequest}
-use Rattle.profile.specs.Agent.{firstEmptyFrom}
 use Rattle.request_reader.specs.declared.asked.Why.{Why}
 use Rattle.request_reader.specs.Answer.{whyMeans}
-use Rattle.profile.specs.Agent.{Call}
-use Rattle.profile.proofs.FirstEmpty.{first-free}
-use Rattle.profile.proofs.Lookup.{Free}
-use Rattle.tables.proofs.SlotParts.{length-slots}
-use Rattle.agent.specs.Call.{callOf, whyOf, Asks}
-use Rattle.agent.proofs.Steps.{why-means, refusal-obeys, may-update, obeys}
+use Rattle.agent.specs.Call.{whyOf}
+use Rattle.agent.proofs.Steps.{why-means, refused-obeys, obeys}
 use Rattle.agent.proofs.answer.Statement.{statement}
 use Rattle.agent.proofs.answer.Tie as tie
 
 -- from where the frame was read, back to the start
 abbrev start : tie.After-read-request → tie.Start
 start read = read .before .before .before .before
-
-abbrev asked : tie.Start → Call
-asked s = callOf (s .args .tally) (s .args .start) (now (s .args .frame)) (now (s .args .reply))
-
--- the slot that is free for a setup
-free : (s : tie.Start) → Free (firstEmptyFrom (s .args .start) (slotsOf (now (s .args .table)))) (slotsOf (now (s .args .table)))
-free s = first-free (s .args .start) (slotsOf (now (s .args .table))) (rw (length-slots (now (s .args .table))) (s .pre .1))
 
 no-request : (told : tie.After-enum-told) {x : Why} → x ≡ whyOf (told .before .before .read-request .result .ask) → whyMeans x ≡ readRequest (now (start (told .before .before) .args .frame))
 no-request told e =
@@ -56,24 +43,10 @@ returns c =
     let why = refused .before in
     let told = why .before .before in
     let s = start (told .before .before) in
-    let t = now (s .args .table) in
-    refusal-obeys _ _ _ _ _ (refused .refuse .ensures) (no-request told (why .why-of .ensures)) (firstEmptyFrom (s .args .start) (slotsOf t)) (slotsOf t) t (asked s) refl (s .pre .2)
+    refused-obeys _ _ _ _ _ (refused .refuse .ensures) (no-request told (why .why-of .ensures)) (now (s .args .table)) (s .args .start)
 
 serve-requires : tie.Need-serve-requires
 serve-requires c κs = search needs
-
--- from where the request was served, back to the match on what was read
-abbrev told : tie.After-serve → tie.After-ask
-told done = done .before .before .before .before
-
-asks : (done : tie.After-serve) → Asks (now (start (told done .before .before) .args .frame)) (told done .before .before .read-request .result) (told done .ask .given .0 .0)
-asks done = record { answers = told done .before .before .read-request .ensures; yes = told done .ask .given .1 }
-
-updated-requires : tie.Need-updated-requires
-updated-requires c κs =
-    let done = c .before .before .before .before in
-    let s = start (told done .before .before) in
-    may-update (asks done) _ (s .pre .0 .whole) (s .pre .0 .well) (free s) (asked s) (s .pre .2) (done .serve .ensures)
 
 same-length-2 : tie.Need-same-length-2
 same-length-2 c = search needs
@@ -83,9 +56,11 @@ same-length-3 c = search needs
 
 returns-2 : tie.Need-returns-2
 returns-2 c =
-    let done = c .before .before .before .before .before in
-    let s = start (told done .before .before) in
-    obeys (asks done) _ (s .pre .0 .whole) (s .pre .0 .well) (free s) (asked s) (s .pre .2) (done .serve .ensures) refl _ (c .updated .ensures)
+    let done = c .before .before .before .before in
+    let told = done .before .before .before .before in
+    let read = told .before .before in
+    let s = start read in
+    obeys (record { answers = read .read-request .ensures; yes = told .ask .given .1 }) (s .args .start) (s .pre .0 .whole) (s .pre .0 .well) (s .pre .1) (done .serve .ensures)
 
 pub answer-spec : {M : Type 1} → statement M
 answer-spec =
@@ -99,7 +74,6 @@ answer-spec =
     same-length
     returns
     serve-requires
-    updated-requires
     same-length-2
     same-length-3
     returns-2)

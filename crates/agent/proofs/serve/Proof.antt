@@ -1,6 +1,7 @@
 -- `agent::serve` meets its contract: each kind's own promise is the profile's answer to what the frame reads as. Assumes nothing.
 use denote.Ref.{now}
 use mathlib.Core.Path.{sym, ap, _∙_}
+use mathlib.Core.Logic.{⊎-elim}
 use native.Mathlib.Omega.{arith}
 use borrow.Author.Needs.{needs}
 use Rattle.profile.specs.Bytes.{Bytes256}
@@ -26,62 +27,6 @@ enum-known-body c = search needs
 set-up-requires : tie.Need-set-up-requires
 set-up-requires c κs = search needs
 
-enum-known-body-2 : tie.Need-enum-known-body-2
-enum-known-body-2 c = search needs
-
-install-requires : tie.Need-install-requires
-install-requires c κs =
-    let told = c .before .before .before .before .before in
-    let s = start (told .before .before) in
-    let w = install-within (now (s .args .frame)) (s .args .asked) (s .pre .2 .answers) _ _ _ (s .pre .2 .yes ∙ ap Yes (told .body2 .given .1)) in
-    (s .pre .0, record { few = w .few; some-payload = w .least; short = w .most; inside = omega (arith, w .ends) })
-
-enum-told : tie.Need-enum-told
-enum-told c = search needs
-
-retrieve-requires : tie.Need-retrieve-requires
-retrieve-requires c κs = search needs
-
-enum-told-2 : tie.Need-enum-told-2
-enum-told-2 c = search needs
-
-query-key-requires : tie.Need-query-key-requires
-query-key-requires c κs = search needs
-
-enum-told-3 : tie.Need-enum-told-3
-enum-told-3 c = search needs
-
-enable-requires : tie.Need-enable-requires
-enable-requires c κs = search needs
-
-enum-told-4 : tie.Need-enum-told-4
-enum-told-4 c = search needs
-
-clear-requires : tie.Need-clear-requires
-clear-requires c κs = search needs
-
-enum-told-5 : tie.Need-enum-told-5
-enum-told-5 c = search needs
-
-clear-requires-2 : tie.Need-clear-requires-2
-clear-requires-2 c κs = search needs
-
-enum-known-body-3 : tie.Need-enum-known-body-3
-enum-known-body-3 c = search needs
-
-handle-list-requires : tie.Need-handle-list-requires
-handle-list-requires c κs =
-    let told = c .before .before .before in
-    let s = start (told .before .before) in
-    let w = list-within (now (s .args .frame)) (s .args .asked) (s .pre .2 .answers) _ _ _ (s .pre .2 .yes ∙ ap Yes (told .body3 .given .1)) in
-    (record { whole = s .pre .0 .whole; well = s .pre .0 .well; room = s .pre .0 .room }, w .few, omega (arith, w .ends))
-
-enum-told-6 : tie.Need-enum-told-6
-enum-told-6 c = search needs
-
-info-requires : tie.Need-info-requires
-info-requires c κs = search needs
-
 same-length : tie.Need-same-length
 same-length c = search needs
 
@@ -93,6 +38,16 @@ returns c =
     let done = c .before .before .before .before in
     let told = done .before .before .before .before .before in
     served-at (start (told .before .before) .pre .2) _ (told .body .given .1) (done .set-up .ensures)
+
+enum-known-body-2 : tie.Need-enum-known-body-2
+enum-known-body-2 c = search needs
+
+install-requires : tie.Need-install-requires
+install-requires c κs =
+    let told = c .before .before .before .before .before in
+    let s = start (told .before .before) in
+    let w = install-within (now (s .args .frame)) (s .args .asked) (s .pre .2 .answers) _ _ _ (s .pre .2 .yes ∙ ap Yes (told .body2 .given .1)) in
+    (s .pre .0, record { few = w .few; some-payload = w .least; short = w .most; inside = omega (arith, w .ends) })
 
 same-length-3 : tie.Need-same-length-3
 same-length-3 c = search needs
@@ -106,6 +61,18 @@ returns-2 c =
     let told = done .before .before .before .before .before .before in
     served (start (told .before .before) .pre .2) _ (told .body2 .given .1) (omega arith) (done .install .ensures)
 
+enum-told : tie.Need-enum-told
+enum-told c = search needs
+
+enum-told-2 : tie.Need-enum-told-2
+enum-told-2 c = search needs
+
+enum-told-3 : tie.Need-enum-told-3
+enum-told-3 c = search needs
+
+enable-requires : tie.Need-enable-requires
+enable-requires c κs = search needs
+
 same-length-5 : tie.Need-same-length-5
 same-length-5 c = search needs
 
@@ -115,8 +82,14 @@ same-length-6 c = search needs
 returns-3 : tie.Need-returns-3
 returns-3 c =
     let done = c .before .before .before .before in
-    let told = done .before .before .before in
-    served (start (told .before .before) .pre .2) _ (told .enum-told .given .1) (omega arith) (done .retrieve .ensures)
+    let told = done .before .before .before .before in
+    served (start (told .before .before) .pre .2) _ (told .enum-told3 .given .1) (omega arith) (done .enable .ensures)
+
+enum-told-4 : tie.Need-enum-told-4
+enum-told-4 c = search needs
+
+clear-requires : tie.Need-clear-requires
+clear-requires c κs = search needs
 
 same-length-7 : tie.Need-same-length-7
 same-length-7 c = search needs
@@ -127,8 +100,14 @@ same-length-8 c = search needs
 returns-4 : tie.Need-returns-4
 returns-4 c =
     let done = c .before .before .before .before in
-    let told = done .before .before .before in
-    served (start (told .before .before) .pre .2) _ (told .enum-told2 .given .1) (omega arith) (done .query-key .ensures)
+    let told = done .before .before .before .before in
+    served (start (told .before .before) .pre .2) _ (told .enum-told4 .given .1) (omega arith) (removed _ (done .clear .ensures))
+
+enum-told-5 : tie.Need-enum-told-5
+enum-told-5 c = search needs
+
+clear-requires-2 : tie.Need-clear-requires-2
+clear-requires-2 c κs = search needs
 
 same-length-9 : tie.Need-same-length-9
 same-length-9 c = search needs
@@ -140,7 +119,17 @@ returns-5 : tie.Need-returns-5
 returns-5 c =
     let done = c .before .before .before .before in
     let told = done .before .before .before .before in
-    served (start (told .before .before) .pre .2) _ (told .enum-told3 .given .1) (omega arith) (done .enable .ensures)
+    served (start (told .before .before) .pre .2) _ (told .enum-told5 .given .1) (omega arith) (cancelled _ (done .clear2 .ensures))
+
+enum-known-body-3 : tie.Need-enum-known-body-3
+enum-known-body-3 c = search needs
+
+handle-list-requires : tie.Need-handle-list-requires
+handle-list-requires c κs =
+    let told = c .before .before .before in
+    let s = start (told .before .before) in
+    let w = list-within (now (s .args .frame)) (s .args .asked) (s .pre .2 .answers) _ _ _ (s .pre .2 .yes ∙ ap Yes (told .body3 .given .1)) in
+    (record { whole = s .pre .0 .whole; well = s .pre .0 .well; room = s .pre .0 .room }, w .few, omega (arith, w .ends))
 
 same-length-11 : tie.Need-same-length-11
 same-length-11 c = search needs
@@ -150,9 +139,18 @@ same-length-12 c = search needs
 
 returns-6 : tie.Need-returns-6
 returns-6 c =
-    let done = c .before .before .before .before in
+    let done = c .before .before in
     let told = done .before .before .before .before in
-    served (start (told .before .before) .pre .2) _ (told .enum-told4 .given .1) (omega arith) (removed _ (done .clear .ensures))
+    let m = told .before .before in
+    let s = start m in
+    let kept = list-keeps (now (s .args .table)) (bytes m) (s .pre .0 .whole) (s .pre .0 .well) _ _ in
+    served (s .pre .2) _ (told .body3 .given .1) (omega arith) (record { table-is = sym kept; reply-is = done .handle-list .ensures; change-is = list-same (now (s .args .table)) _ _ })
+
+enum-told-6 : tie.Need-enum-told-6
+enum-told-6 c = search needs
+
+info-requires : tie.Need-info-requires
+info-requires c κs = search needs
 
 same-length-13 : tie.Need-same-length-13
 same-length-13 c = search needs
@@ -162,9 +160,17 @@ same-length-14 c = search needs
 
 returns-7 : tie.Need-returns-7
 returns-7 c =
-    let done = c .before .before .before .before in
+    let done = c .before .before in
     let told = done .before .before .before .before in
-    served (start (told .before .before) .pre .2) _ (told .enum-told5 .given .1) (omega arith) (cancelled _ (done .clear2 .ensures))
+    let m = told .before .before in
+    let s = start m in
+    let kept = info-keeps (now (s .args .table)) (bytes m) (s .pre .0 .whole) (s .pre .0 .well) _ in
+    served (s .pre .2) _ (told .enum-told6 .given .1) (omega arith) (record { table-is = sym kept; reply-is = done .info .ensures; change-is = info-same (now (s .args .table)) _ })
+
+lend-requires : tie.Need-lend-requires
+lend-requires c κs =
+    let came = c .before .before .match .came in
+    (search needs, ⊎-elim (λ w. omega (arith, w .2)) (λ w. omega (arith, w .2)) came, ⊎-elim (λ w. omega (arith, w .2)) (λ w. omega (arith, w .2)) came)
 
 same-length-15 : tie.Need-same-length-15
 same-length-15 c = search needs
@@ -174,27 +180,13 @@ same-length-16 c = search needs
 
 returns-8 : tie.Need-returns-8
 returns-8 c =
-    let done = c .before .before in
-    let told = done .before .before .before .before in
-    let m = told .before .before in
-    let s = start m in
-    let kept = list-keeps (now (s .args .table)) (bytes m) (s .pre .0 .whole) (s .pre .0 .well) _ _ in
-    served (s .pre .2) _ (told .body3 .given .1) (omega arith) (record { table-is = sym kept; reply-is = done .handle-list .ensures; change-is = list-same (now (s .args .table)) _ _ })
-
-same-length-17 : tie.Need-same-length-17
-same-length-17 c = search needs
-
-same-length-18 : tie.Need-same-length-18
-same-length-18 c = search needs
-
-returns-9 : tie.Need-returns-9
-returns-9 c =
-    let done = c .before .before in
-    let told = done .before .before .before .before in
-    let m = told .before .before in
-    let s = start m in
-    let kept = info-keeps (now (s .args .table)) (bytes m) (s .pre .0 .whole) (s .pre .0 .well) _ in
-    served (s .pre .2) _ (told .enum-told6 .given .1) (omega arith) (record { table-is = sym kept; reply-is = done .info .ensures; change-is = info-same (now (s .args .table)) _ })
+    let done = c .before .before .before .before in
+    let m = done .before .before .before in
+    let s = start (m .before) in
+    ⊎-elim
+    (λ w. served (s .pre .2) _ (w .1 .given .1) (omega arith) (rw (w .2) at (done .lend .ensures)))
+    (λ w. served (s .pre .2) _ (w .1 .given .1) (omega arith) (rw (w .2) at (done .lend .ensures)))
+    (m .match .came)
 
 pub serve-spec : {M : Type 1} → statement M
 serve-spec =
@@ -202,46 +194,42 @@ serve-spec =
     (tie.spec
     enum-known-body
     set-up-requires
-    enum-known-body-2
-    install-requires
-    enum-told
-    retrieve-requires
-    enum-told-2
-    query-key-requires
-    enum-told-3
-    enable-requires
-    enum-told-4
-    clear-requires
-    enum-told-5
-    clear-requires-2
-    enum-known-body-3
-    handle-list-requires
-    enum-told-6
-    info-requires
     same-length
     same-length-2
     returns
+    enum-known-body-2
+    install-requires
     same-length-3
     same-length-4
     returns-2
+    enum-told
+    enum-told-2
+    enum-told-3
+    enable-requires
     same-length-5
     same-length-6
     returns-3
+    enum-told-4
+    clear-requires
     same-length-7
     same-length-8
     returns-4
+    enum-told-5
+    clear-requires-2
     same-length-9
     same-length-10
     returns-5
+    enum-known-body-3
+    handle-list-requires
     same-length-11
     same-length-12
     returns-6
+    enum-told-6
+    info-requires
     same-length-13
     same-length-14
     returns-7
+    lend-requires
     same-length-15
     same-length-16
-    returns-8
-    same-length-17
-    same-length-18
-    returns-9)
+    returns-8)
