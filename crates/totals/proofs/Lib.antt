@@ -1,0 +1,4 @@
+pub mod Fitting
+pub mod Bounds
+pub mod Telling
+pub mod Outcomes
