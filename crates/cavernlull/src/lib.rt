@@ -1,4 +1,4 @@
-// What a front end or a device links: seven functions under C's calling convention, declared for C in include/cavernlull.h. In C a slice is
+// What a front end or a device links: eight functions under C's calling convention, declared for C in include/cavernlull.h. In C a slice is
 // a pointer and then a length, and an array is a pointer. Any bytes and any lengths may be lent. What is lent to be changed shares no byte
 // with anything else that is lent in the same call.
 use crate::numbers::REPLY_NUMBERS;
@@ -19,10 +19,12 @@ ghost use Rattle.profile.specs.Device.{fieldsWith, write};
 ghost use Rattle.profile.specs.Listing.{listing};
 ghost use Rattle.profile.specs.Salvage.{salvage as salvageOf};
 ghost use Rattle.profile.specs.Tally.{tallied, workOut};
+ghost use Rattle.profile.specs.Total.{totalsWith, totalling};
 ghost use Rattle.profile.specs.Turning.{turn as turnOf};
 ghost use Rattle.agent.specs.Call.{outcome, callOf};
 ghost use Rattle.request_writer.specs.Writing.{wrote};
 ghost use Rattle.salvage.specs.Salvages.{salvaged};
+ghost use Rattle.totals.specs.Returns.{totalled};
 ghost use Rattle.turning.specs.Turns.{turned};
 ghost use Rattle.cavernlull.specs.Numbers.{left, ReadsInto};
 
@@ -40,6 +42,26 @@ pub extern "C" fn cavernlull_call(
     ensures { λ r. ⌜ outcome r (now (reply .exit)) (now (table .exit)) (now (tally .exit)) ≡ agentOf (now (table .entry)) (callOf (now (tally .entry)) start (now (frame .entry)) (now (reply .entry))) ⌝ }
 {
     let done = agent::call(table, *tally, start, frame, reply);
+    *tally = done.tally;
+    done.number
+}
+
+// The totalling call (PROFILE 4.5): one call, and what its return did to a count, added to a running total. With 108 nothing is changed. With
+// every other number but 0 total and returns stay, and the change is 0.
+#[no_mangle]
+pub extern "C" fn cavernlull_call_totalling(
+    table: &mut [u8],
+    tally: &mut Tally,
+    start: usize,
+    frame: &[u8],
+    reply: &mut [u8],
+    total: &mut i32,
+    returns: &mut u16,
+    change: &mut i32,
+) -> u16
+    ensures { λ r. ⌜ totalled (outcome r (now (reply .exit)) (now (table .exit)) (now (tally .exit))) (now (total .exit)) (now (returns .exit)) (now (change .exit)) ≡ totalling (now (table .entry)) (callOf (now (tally .entry)) start (now (frame .entry)) (now (reply .entry))) (totalsWith (now (total .entry)) (now (returns .entry))) (now (change .entry)) ⌝ }
+{
+    let done = totals::call_totalling(table, *tally, start, frame, reply, total, returns, change);
     *tally = done.tally;
     done.number
 }
