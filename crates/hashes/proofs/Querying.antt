@@ -11,9 +11,9 @@ use Rattle.profile.specs.Table.{placeOf, hashCountOf, rightOf, unpack}
 use Rattle.profile.specs.Agent.{listedSlot}
 use Rattle.profile.proofs.Strings.{length-pieces}
 use Rattle.octets.proofs.Parts.{part-all}
-use Rattle.slots.specs.Readers.{hashAt}
+use Rattle.hashes.specs.Readers.{hashAt}
 use Rattle.slots.proofs.Pieces.{pieces-step, pieces-within}
 use Rattle.slots.proofs.Unpacking.{unpack-empty, unpack-reserved, unpack-enabled, unpack-disabled}
 
 -- ---- n hashes in some hash bytes, one after another
 module _ (bytes : Bytes) (n : ℕ) where

@@ -1,4 +1,4 @@
--- `slots::reader::hash_of` meets its contract: a walk of its MIR by hand. The reader that `reader_at` returns is held in a local and passed
+-- `hashes::reader::hash_of` meets its contract: a walk of its MIR by hand. The reader that `reader_at` returns is held in a local and passed
 -- to `read`: all that is known of the two is that each meets its contract. In a local MIR erases the lifetime of the reader's type, so the
 -- machine value is shown to have the type at `erased`: what a reader owns does not say the lifetime's name. Assumes nothing.
 use mathlib.Core.Path.{_≡_, refl}
@@ -38,22 +38,22 @@ use denote.Triple.Table.{entered, cited}
 use denote.Triple.Walked.{says, needs, Stays, stay-none, stay-none-slice, walkOf, goes-none, goes-none-slice, Walks, ends-at, walked, walk-meets}
 use denote.Exit.{yes}
 use denote.Triple.Clauses.{ensured, lasts}
-use Rattle.slots.specs.Readers.{hashAt, HashStands, readerAt}
-use Rattle.slots.specs.declared.reader.HashReader.{HashReader}
-use Rattle.slots.proofs.reader.HashReader as T
-use Rattle.slots.proofs.reader.HashReader.Laws as T′
-use Rattle.slots.proofs.reader.reader_at as reader-at
-use Rattle.slots.proofs.reader.reader_at.Symbol as reader-at-def
-use Rattle.slots.proofs.reader.reader_at.Symbol.{name as #reader-at}
-use Rattle.slots.proofs.reader.reader_at.Met as reader-at-thm
-use Rattle.slots.proofs.reader.read as read
-use Rattle.slots.proofs.reader.read.Symbol as read-def
-use Rattle.slots.proofs.reader.read.Symbol.{name as #read}
-use Rattle.slots.proofs.reader.read.Met as read-thm
-use Rattle.slots.proofs.reader.hash_of.Key.{name as #hash-of}
-use Rattle.slots.proofs.reader.hash_of as f
-use Rattle.slots.proofs.reader.hash_of.Statement as stated
-use Rattle.slots.proofs.reader.hash_of.Code as code
+use Rattle.hashes.specs.Readers.{hashAt, HashStands, readerAt}
+use Rattle.hashes.specs.declared.reader.HashReader.{HashReader}
+use Rattle.hashes.proofs.reader.HashReader as T
+use Rattle.hashes.proofs.reader.HashReader.Laws as T′
+use Rattle.hashes.proofs.reader.reader_at as reader-at
+use Rattle.hashes.proofs.reader.reader_at.Symbol as reader-at-def
+use Rattle.hashes.proofs.reader.reader_at.Symbol.{name as #reader-at}
+use Rattle.hashes.proofs.reader.reader_at.Met as reader-at-thm
+use Rattle.hashes.proofs.reader.read as read
+use Rattle.hashes.proofs.reader.read.Symbol as read-def
+use Rattle.hashes.proofs.reader.read.Symbol.{name as #read}
+use Rattle.hashes.proofs.reader.read.Met as read-thm
+use Rattle.hashes.proofs.reader.hash_of.Key.{name as #hash-of}
+use Rattle.hashes.proofs.reader.hash_of as f
+use Rattle.hashes.proofs.reader.hash_of.Statement as stated
+use Rattle.hashes.proofs.reader.hash_of.Code as code
 
 abbrev Hash : RattleType
 Hash = Array u8 20
@@ -176,5 +176,5 @@ hash-of-spec 𝓤 H 𝓜 𝓖 𝓡 =
     entered 𝓤 H (tripleOf 𝓤 H (𝓖 .A) f.signature (f.spec 𝓤 H (𝓖 .A) (𝓜 .mem) (𝓡 .run)))
     (tables 𝓤 H 𝓜 𝓡 code.env .C) (tables 𝓤 H 𝓜 𝓡 code.env .Λ) #hash-of code.function (code.unfolded 𝓤 H 𝓜 𝓡)
     (hash-of-meets 𝓤 H (𝓖 .A) (givenOf 𝓤 H 𝓜 𝓖) (𝓜 .mem) (𝓡 .run) (tablesOf 𝓤 H 𝓜 (tables 𝓤 H 𝓜 𝓡 code.env))
-    (cited 𝓤 H (ReaderAt 𝓤 H (𝓖 .A) (𝓜 .mem) (𝓡 .run)) 𝓜 𝓡 code.env #reader-at reader-at-def.routine code.calls-slots·reader·reader-at (reader-at-thm.met 𝓤 H 𝓜 𝓖 𝓡))
-    (cited 𝓤 H (Read 𝓤 H (𝓖 .A) (𝓜 .mem) (𝓡 .run)) 𝓜 𝓡 code.env #read read-def.routine code.calls-slots·reader·read (read-thm.met 𝓤 H 𝓜 𝓖 𝓡)))
+    (cited 𝓤 H (ReaderAt 𝓤 H (𝓖 .A) (𝓜 .mem) (𝓡 .run)) 𝓜 𝓡 code.env #reader-at reader-at-def.routine code.calls-hashes·reader·reader-at (reader-at-thm.met 𝓤 H 𝓜 𝓖 𝓡))
+    (cited 𝓤 H (Read 𝓤 H (𝓖 .A) (𝓜 .mem) (𝓡 .run)) 𝓜 𝓡 code.env #read read-def.routine code.calls-hashes·reader·read (read-thm.met 𝓤 H 𝓜 𝓖 𝓡)))

@@ -1,9 +1,9 @@
--- `slots::hashes::has_some` meets its contract. Assumes nothing.
+-- `hashes::has_some` meets its contract. Assumes nothing.
 use denote.Ref.{now}
 use borrow.Author.Needs.{needs}
-use Rattle.slots.proofs.Querying.{record-none, record-some}
-use Rattle.slots.proofs.hashes.has_some.Statement.{statement}
-use Rattle.slots.proofs.hashes.has_some.Tie as tie
+use Rattle.hashes.proofs.Querying.{record-none, record-some}
+use Rattle.hashes.proofs.has_some.Statement.{statement}
+use Rattle.hashes.proofs.has_some.Tie as tie
 
 shared-slice-read-slot-hashes : tie.Need-shared-slice-read-slot-hashes
 shared-slice-read-slot-hashes c = search needs

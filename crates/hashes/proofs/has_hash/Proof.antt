@@ -1,4 +1,4 @@
--- `slots::hashes::has_hash` meets its contract. The invariant: the hashes from i on decide. Assumes nothing.
+-- `hashes::has_hash` meets its contract. The invariant: the hashes from i on decide. Assumes nothing.
 use denote.Ref.{now}
 use mathlib.Core.Path.{_≡_, refl, sym, ap, _∙_}
 use mathlib.Core.Bool.{Bool}
@@ -7,10 +7,10 @@ use Prim.Native.Nat.{_≤_, _-_}
 use lib.ListN.{length, drop}
 use borrow.Author.Needs.{needs}
 use Rattle.profile.specs.Bytes.{same, any, pieces}
 use Rattle.slots.proofs.Turns.{any-pass, any-stop}
-use Rattle.slots.proofs.Querying.{hashes-step, hashes-end, hash-compared}
-use Rattle.slots.proofs.hashes.has_hash.Statement.{statement}
-use Rattle.slots.proofs.hashes.has_hash.Tie as tie
+use Rattle.hashes.proofs.Querying.{hashes-step, hashes-end, hash-compared}
+use Rattle.hashes.proofs.has_hash.Statement.{statement}
+use Rattle.hashes.proofs.has_hash.Tie as tie
 
 abbrev Inv-loop : tie.InvT-loop
 Inv-loop bytes count asked i₀ i = (i ≤ count) × (any (same asked) (pieces 20 count bytes) ≡ any (same asked) (drop i (pieces 20 count bytes)))

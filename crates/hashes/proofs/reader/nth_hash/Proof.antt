@@ -1,8 +1,8 @@
--- `slots::reader::nth_hash` meets its contract: `hashAt` counts in hashes of 20 bytes. Assumes nothing.
-use Rattle.slots.specs.Readers.{hashAt}
+-- `hashes::reader::nth_hash` meets its contract: `hashAt` counts in hashes of 20 bytes. Assumes nothing.
+use Rattle.hashes.specs.Readers.{hashAt}
 use borrow.Author.Needs.{needs}
-use Rattle.slots.proofs.reader.nth_hash.Statement.{statement}
-use Rattle.slots.proofs.reader.nth_hash.Tie as tie
+use Rattle.hashes.proofs.reader.nth_hash.Statement.{statement}
+use Rattle.hashes.proofs.reader.nth_hash.Tie as tie
 use Rattle.octets.proofs.arrays.hash_at.Reads as hash-at-reads
 
 mul-hash-at : tie.Need-mul-hash-at

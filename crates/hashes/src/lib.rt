@@ -1,8 +1,8 @@
 // The hashes of a record against those of a list query (PROFILE 5.8), which are lent and not copied.
-use crate::place::Place;
 use profile::sizes::HASH_BYTES;
 use profile::slot::GAP_AT;
 use profile::slot::HASHES_AT;
+use slots::place::Place;
 ghost use mathlib.Core.Path.{_≡_};
 ghost use mathlib.Core.List.{[], _∷_};
 ghost use Prim.Native.Nat.{_≤_, _*_};
@@ -11,6 +11,8 @@ ghost use Rattle.profile.specs.Bytes.{pieces, same, any, if_then_else_};
 ghost use Rattle.profile.specs.Sizes.{slotSize, hashSize, mostHashes};
 ghost use Rattle.profile.specs.Table.{unpack, hashCountOf, handleOf, rightOf};
 ghost use Rattle.profile.specs.Agent.{listedSlot};
+
+mod reader; // reader.rt: the hashes of a record, one at a time
 
 // Whether a query's hash is one of the record's, which are read from the slot one after another, without a copy of the list.
 fn has_hash(bytes: &[u8], count: usize, asked: [u8; HASH_BYTES]) -> bool
@@ -60,7 +62,7 @@ pub fn is_listed(s: &[u8], q: &[[u8; HASH_BYTES]]) -> bool
     requires { ⌜ (length (now s) ≡ slotSize) × (hashCountOf (now s) ≤ mostHashes) ⌝ }
     ensures { λ r. ⌜ listedSlot (now (q .entry)) (unpack (now (s .entry))) ≡ (if r then handleOf (now (s .entry)) ∷ [] else []) ⌝ }
 {
-    let place = crate::place::place_of(s);
+    let place = slots::place::place_of(s);
     match place {
         Place::Enabled => { if q.len() == 0 { true } else { has_some(s, q) } }
         Place::Empty => false,

@@ -4,7 +4,7 @@ use lib.ListN.{length}
 use denote.Ref.{RefT, now}
 use Rattle.profile.specs.Bytes.{Bytes, part}
 use Rattle.profile.specs.Sizes.{hashSize}
-use Rattle.slots.specs.declared.reader.HashReader.{HashReader}
+use Rattle.hashes.specs.declared.reader.HashReader.{HashReader}
 
 -- the hash at a position, and that one stands there: positions are counted in hashes, from 0
 unfoldable pub hashAt : ℕ → Bytes → Bytes

@@ -1,12 +1,12 @@
--- `slots::hashes::is_listed` meets its contract, place by place. Assumes nothing.
+-- `hashes::is_listed` meets its contract, place by place. Assumes nothing.
 use denote.Ref.{now}
 use mathlib.Core.Path.{sym, ap, _∙_}
 use native.Mathlib.Omega.{arith}
 use Rattle.slots.specs.Places.{placeNumber}
-use Rattle.slots.proofs.Querying.{not-listed, listed-all, listed-some}
+use Rattle.hashes.proofs.Querying.{not-listed, listed-all, listed-some}
 use borrow.Author.Needs.{needs}
-use Rattle.slots.proofs.hashes.is_listed.Statement.{statement}
-use Rattle.slots.proofs.hashes.is_listed.Tie as tie
+use Rattle.hashes.proofs.is_listed.Statement.{statement}
+use Rattle.hashes.proofs.is_listed.Tie as tie
 
 place-of-requires : tie.Need-place-of-requires
 place-of-requires c κs = search needs

@@ -2,7 +2,7 @@
 // parameters, which serves every caller. The three are proved by hand.
 use profile::sizes::HASH_BYTES;
 ghost use mathlib.Core.Path.{_≡_};
-ghost use Rattle.slots.specs.Readers.{hashAt, HashStands, readerAt, hashRead, Reads};
+ghost use Rattle.hashes.specs.Readers.{hashAt, HashStands, readerAt, hashRead, Reads};
 
 struct HashReader<'a> {
     bytes: &'a [u8],

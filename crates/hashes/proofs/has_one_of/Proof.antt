@@ -1,4 +1,4 @@
--- `slots::hashes::has_one_of` meets its contract. The invariant: none of the query's first k hashes is the record's. Assumes nothing.
+-- `hashes::has_one_of` meets its contract. The invariant: none of the query's first k hashes is the record's. Assumes nothing.
 use denote.Ref.{now}
 use mathlib.Core.Path.{_≡_, sym, _∙_}
 use mathlib.Core.Bool.{Bool, false}
@@ -10,8 +10,8 @@ use lib.Seq.{take-length}
 use borrow.Author.Needs.{needs}
 use Rattle.profile.specs.Bytes.{Bytes, same, any, pieces}
 use Rattle.octets.proofs.Comparing.{any-more, any-found}
-use Rattle.slots.proofs.hashes.has_one_of.Statement.{statement}
-use Rattle.slots.proofs.hashes.has_one_of.Tie as tie
+use Rattle.hashes.proofs.has_one_of.Statement.{statement}
+use Rattle.hashes.proofs.has_one_of.Tie as tie
 
 -- x is one of n hashes
 abbrev has : Bytes → ℕ → Bytes → Bool

@@ -1,4 +1,4 @@
--- `slots::reader::reader_at` meets its contract: a walk of its MIR by hand. A reader is made of the slice and the number passed, in the
+-- `hashes::reader::reader_at` meets its contract: a walk of its MIR by hand. A reader is made of the slice and the number passed, in the
 -- result's local. A `&[u8]` is Copy, so what it owns is had twice: once for `bytes` at exit, and once inside the result. Assumes nothing.
 use mathlib.Core.Path.{refl}
 use Prim.Native.Nat.{ℕ, _<_, _^_}
@@ -33,13 +33,13 @@ use denote.Triple.Spec.{Meets, tripleOf}
 use denote.Triple.Table.{entered}
 use denote.Triple.Walked.{says, Stays, stay-none, stay-none-slice, walkOf, goes-none, goes-none-slice, Walks, ends-at, walked, walk-meets}
 use denote.Exit.{yes}
-use Rattle.slots.specs.declared.reader.HashReader.{HashReader}
-use Rattle.slots.proofs.reader.HashReader as T
-use Rattle.slots.proofs.reader.HashReader.Laws as T′
-use Rattle.slots.proofs.reader.reader_at.Key.{name as #reader-at}
-use Rattle.slots.proofs.reader.reader_at as f
-use Rattle.slots.proofs.reader.reader_at.Statement as stated
-use Rattle.slots.proofs.reader.reader_at.Code as code
+use Rattle.hashes.specs.declared.reader.HashReader.{HashReader}
+use Rattle.hashes.proofs.reader.HashReader as T
+use Rattle.hashes.proofs.reader.HashReader.Laws as T′
+use Rattle.hashes.proofs.reader.reader_at.Key.{name as #reader-at}
+use Rattle.hashes.proofs.reader.reader_at as f
+use Rattle.hashes.proofs.reader.reader_at.Statement as stated
+use Rattle.hashes.proofs.reader.reader_at.Code as code
 
 abbrev stayed : Stays (f.ended .signature .params) (f.ended .kept)
 stayed = (stay-none-slice (0 ∷ []) tt (plain (λ _. u8)) yes, (stay-none (λ _. usize) yes, tt))

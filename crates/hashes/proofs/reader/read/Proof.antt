@@ -1,4 +1,4 @@
--- `slots::reader::read` meets its contract: a walk of its MIR by hand. The reader is taken apart, and `nth_hash` is called on the slice and
+-- `hashes::reader::read` meets its contract: a walk of its MIR by hand. The reader is taken apart, and `nth_hash` is called on the slice and
 -- the number: all that is known of it is that it meets its contract. The reader is Copy: what it owns is had twice. One copy is kept whole
 -- for the exit; of the other, what `bytes` owns goes to the callee, beside the lifetime's token, which comes back. Assumes nothing.
 use mathlib.Core.Path.{_≡_, refl}
@@ -43,18 +43,18 @@ use denote.Triple.Table.{entered, cited}
 use denote.Triple.Walked.{says, needs, Stays, stay-none, walkOf, goes-none, Walks, ends-at, walked, walk-meets}
 use denote.Exit.{yes}
 use denote.Triple.Clauses.{ensured, lasts}
-use Rattle.slots.specs.Readers.{hashRead, Reads}
-use Rattle.slots.specs.declared.reader.HashReader.{HashReader}
-use Rattle.slots.proofs.reader.HashReader as T
-use Rattle.slots.proofs.reader.HashReader.Laws as T′
-use Rattle.slots.proofs.reader.nth_hash as nth-hash
-use Rattle.slots.proofs.reader.nth_hash.Symbol as nth-hash-def
-use Rattle.slots.proofs.reader.nth_hash.Symbol.{name as #nth-hash}
-use Rattle.slots.proofs.reader.nth_hash.Met as nth-hash-thm
-use Rattle.slots.proofs.reader.read.Key.{name as #read}
-use Rattle.slots.proofs.reader.read as f
-use Rattle.slots.proofs.reader.read.Statement as stated
-use Rattle.slots.proofs.reader.read.Code as code
+use Rattle.hashes.specs.Readers.{hashRead, Reads}
+use Rattle.hashes.specs.declared.reader.HashReader.{HashReader}
+use Rattle.hashes.proofs.reader.HashReader as T
+use Rattle.hashes.proofs.reader.HashReader.Laws as T′
+use Rattle.hashes.proofs.reader.nth_hash as nth-hash
+use Rattle.hashes.proofs.reader.nth_hash.Symbol as nth-hash-def
+use Rattle.hashes.proofs.reader.nth_hash.Symbol.{name as #nth-hash}
+use Rattle.hashes.proofs.reader.nth_hash.Met as nth-hash-thm
+use Rattle.hashes.proofs.reader.read.Key.{name as #read}
+use Rattle.hashes.proofs.reader.read as f
+use Rattle.hashes.proofs.reader.read.Statement as stated
+use Rattle.hashes.proofs.reader.read.Code as code
 
 abbrev Hash : RattleType
 Hash = Array u8 20
@@ -166,4 +166,4 @@ read-spec 𝓤 H 𝓜 𝓖 𝓡 =
     entered 𝓤 H (tripleOf 𝓤 H (𝓖 .A) f.signature (f.spec 𝓤 H (𝓖 .A) (𝓜 .mem) (𝓡 .run)))
     (tables 𝓤 H 𝓜 𝓡 code.env .C) (tables 𝓤 H 𝓜 𝓡 code.env .Λ) #read code.function (code.unfolded 𝓤 H 𝓜 𝓡)
     (read-meets 𝓤 H (𝓖 .A) (givenOf 𝓤 H 𝓜 𝓖) (𝓜 .mem) (𝓡 .run) (tablesOf 𝓤 H 𝓜 (tables 𝓤 H 𝓜 𝓡 code.env))
-    (cited 𝓤 H (NthHash 𝓤 H (𝓖 .A) (𝓜 .mem) (𝓡 .run)) 𝓜 𝓡 code.env #nth-hash nth-hash-def.routine code.calls-slots·reader·nth-hash (nth-hash-thm.met 𝓤 H 𝓜 𝓖 𝓡)))
+    (cited 𝓤 H (NthHash 𝓤 H (𝓖 .A) (𝓜 .mem) (𝓡 .run)) 𝓜 𝓡 code.env #nth-hash nth-hash-def.routine code.calls-hashes·reader·nth-hash (nth-hash-thm.met 𝓤 H 𝓜 𝓖 𝓡)))
