@@ -1,6 +1,6 @@
 // Where a table has room.
-use crate::part::slot_at;
 use profile::sizes::SLOT_BYTES;
+use tables::part::slot_at;
 ghost use mathlib.Core.Path.{_≡_};
 ghost use Prim.Native.Nat.{_<_};
 ghost use Rattle.profile.specs.Table.{slotCount, slotsOf};

@@ -1,12 +1,12 @@
--- `tables::room::first_empty_from` meets its contract. The invariant: none of the first k slots on the way is empty. Assumes nothing.
+-- `room::first_empty_from` meets its contract. The invariant: none of the first k slots on the way is empty. Assumes nothing.
 use denote.Ref.{now}
 use mathlib.Core.Path.{_≡_, sym, _∙_}
 use native.Mathlib.Omega.{arith}
 use Prim.Native.Nat.{_≤_, _-_}
 use borrow.Author.Needs.{needs}
-use Rattle.tables.proofs.Searching.{Passed, slot-below, search-stop, search-pass, search-end}
-use Rattle.tables.proofs.room.first_empty_from.Statement.{statement}
-use Rattle.tables.proofs.room.first_empty_from.Tie as tie
+use Rattle.room.proofs.Searching.{Passed, slot-below, search-stop, search-pass, search-end}
+use Rattle.room.proofs.first_empty_from.Statement.{statement}
+use Rattle.room.proofs.first_empty_from.Tie as tie
 
 abbrev Inv-loop : tie.InvT-loop
 Inv-loop t start n k₀ k = (k ≤ n) × Passed t start k

@@ -1,9 +1,9 @@
--- `tables::room::onward` meets its contract: within the slots, or past the last one. Assumes nothing.
+-- `room::onward` meets its contract: within the slots, or past the last one. Assumes nothing.
 use native.Mathlib.Omega.{arith}
 use borrow.Author.Needs.{needs}
 use Rattle.profile.proofs.FirstEmpty.{onward-up, onward-round}
-use Rattle.tables.proofs.room.onward.Statement.{statement}
-use Rattle.tables.proofs.room.onward.Tie as tie
+use Rattle.room.proofs.onward.Statement.{statement}
+use Rattle.room.proofs.onward.Tie as tie
 
 sub-ahead : tie.Need-sub-ahead
 sub-ahead c = search needs
