@@ -54,7 +54,7 @@ pub(crate) fn put_handles(
     let mut i = 0;
     while i < n {
         let slot = tables::part::slot_at(table, i);
-        if slots::hashes::is_listed(slot, &query[..hashes]) {
+        if hashes::is_listed(slot, &query[..hashes]) {
             put_next(reply, slot, found, most);
             found += 1;
         }

@@ -34,7 +34,7 @@ pub fn set_up(
         reply_writer::writer::reply_status(reply, 1, DUPLICATE_HANDLE);
         return Change::Same;
     }
-    let i = tables::room::first_empty_from(table, start);
+    let i = room::first_empty_from(table, start);
     if ((MOST_PAYLOAD as u16) < n) | (table.len() / SLOT_BYTES <= i) {
         reply_writer::writer::reply_status(reply, 1, NOT_ENOUGH_SPACE);
         return Change::Same;

@@ -4,7 +4,5 @@ pub mod Pieces
 -- one slot
 pub mod Unpacking
 pub mod WellSlots
--- hashes
-pub mod Querying
 -- one outcome
 pub mod OneAnswer

@@ -34,10 +34,3 @@ one-head s h k p q =
     let counts = p .count-is ∙ sym (q .count-is) in
     let lengths = p .length-is ∙ sym (q .length-is) in
     λ i. record { place = places i; hashes = hashes i; count = counts i; length = lengths i }
-
--- `is_listed`: a list with a handle is not the empty one
-pub one-listed : (x : Bytes) (a b : Bool) {l : List Bytes} → l ≡ (if a then x ∷ [] else []) → l ≡ (if b then x ∷ [] else []) → a ≡ b
-one-listed x true true e f = refl
-one-listed x true false e f = absurd (omega (arith, ap length (sym e ∙ f)))
-one-listed x false true e f = absurd (omega (arith, ap length (sym e ∙ f)))
-one-listed x false false e f = refl

@@ -2,4 +2,3 @@ pub mod Places
 pub mod Heads
 pub mod Taken
 pub mod Rules
-pub mod Readers

@@ -2,5 +2,3 @@
 pub mod place; // place.rt: the place of a record
 pub mod head; // head.rt: the numbers at the front of a slot
 pub mod well; // well.rt: a well-formed slot
-mod reader; // reader.rt: the hashes of a record, one at a time
-pub mod hashes; // hashes.rt: the hashes of a record against a query

@@ -2,7 +2,6 @@
 pub mod SlotParts
 pub mod Turns
 pub mod Marking
-pub mod Searching
 pub mod WellTables
 -- looking up
 pub mod LookingUp

@@ -100,11 +100,20 @@ none-marked h (s ∷ ss) e = go (eqb (markIn s) (markOf h)) refl e (none-marked 
     go true q z ih = absurd (omega (arith, z))
     go false q z ih = rw (not-named h s (λ e. true≢false (sym (eq-eqb _ _ e) ∙ q))) (ih z)
 
--- ---- among sixteen zeros no number stands once
-not-among-zeros : (x : ℕ) → timesOf x (replicate 16 0) ≡ 1 → ⊥
+-- ---- among zeros only 0 stands, as often as there are zeros; so among sixteen no number stands once
+zero-among : (n : ℕ) → timesOf 0 (replicate n 0) ≡ n
 unfolding timesOf
-not-among-zeros zero e = omega (arith, e)
-not-among-zeros (suc x) e = let none : timesOf (suc x) (replicate 16 0) ≡ 0 = rw (ne-eqb 0 (suc x) (λ z. omega (arith, z))) in omega (arith, none, e)
+zero-among zero = refl
+zero-among (suc n) = ap suc (zero-among n)
+
+other-among : (x n : ℕ) → timesOf (suc x) (replicate n 0) ≡ 0
+unfolding timesOf
+other-among x zero = refl
+other-among x (suc n) = rw (ne-eqb 0 (suc x) (λ z. omega (arith, z))) (other-among x n)
+
+not-among-zeros : (x : ℕ) → timesOf x (replicate 16 0) ≡ 1 → ⊥
+not-among-zeros zero e = omega (arith, zero-among 16, e)
+not-among-zeros (suc x) e = omega (arith, other-among x 16, e)
 
 -- ---- slot i of a table with its marks, whose bytes are s
 module _ (t m : Bytes) (i : ℕ) (h : i < slotCount t) (s : Bytes) (e : s ≡ part (4288 * i) 4288 t) where

@@ -3,5 +3,4 @@ pub mod part; // part.rt: the table's slots, one by one
 pub mod handle; // handle.rt: slots under a handle
 mod marks; // marks.rt: handles told apart by one byte each
 pub mod table; // table.rt: a well-formed table
-pub mod room; // room.rt: the first empty slot from a start
 pub mod lookup; // lookup.rt: the record under a handle

@@ -27,31 +27,67 @@ count-says-requires : tie.Need-count-says-requires
 count-says-requires c κs = search needs
 
 returns : tie.Need-returns
-returns c = rw (c .match .keys1) (cc)
+returns c =
+    let pay = c .before .before .before in
+    let hash = pay .before in
+    let key = hash .before .before .before .before .before in
+    rw (c .match .keys1, ← key .before .zero-handle2 .ensures, ← key .zero-key .ensures, ← hash .empty .ensures, ← pay .empty2 .ensures) refl
 
 returns-2 : tie.Need-returns-2
-returns-2 c = rw (c .match .keys2) (cc)
+returns-2 c =
+    let pay = c .before .before .before in
+    let hash = pay .before in
+    let key = hash .before .before .before .before .before in
+    rw (c .match .keys2, ← key .before .zero-handle2 .ensures, ← c .before .count-says .ensures, ← hash .empty .ensures, ← c .before .before .payload-fits .ensures) refl
 
 returns-3 : tie.Need-returns-3
-returns-3 c = rw (c .match .keys3) (cc)
+returns-3 c =
+    let pay = c .before .before .before in
+    let hash = pay .before in
+    let key = hash .before .before .before .before .before in
+    rw (c .match .keys3, ← key .zero-key .ensures, ← hash .empty .ensures, ← pay .empty2 .ensures) refl
 
 returns-4 : tie.Need-returns-4
-returns-4 c = rw (c .match .keys4) (cc)
+returns-4 c =
+    let pay = c .before .before .before in
+    let hash = pay .before in
+    let key = hash .before .before .before .before .before in
+    rw (c .match .keys4, ← key .zero-key .ensures, ← hash .empty .ensures, ← pay .empty2 .ensures) refl
 
 returns-5 : tie.Need-returns-5
-returns-5 c = rw (c .match .keys5) (cc)
+returns-5 c =
+    let pay = c .before .before .before in
+    let hash = pay .before in
+    let key = hash .before .before .before .before .before in
+    rw (c .match .keys5, ← key .before .zero-handle2 .ensures, ← key .zero-key .ensures, ← hash .empty .ensures, ← pay .empty2 .ensures, ← c .before .count-says .ensures) refl
 
 returns-6 : tie.Need-returns-6
-returns-6 c = rw (c .match .keys6) (cc)
+returns-6 c =
+    let pay = c .before .before .before in
+    let hash = pay .before in
+    let key = hash .before .before .before .before .before in
+    rw (c .match .keys6, ← key .before .zero-handle2 .ensures, ← key .zero-key .ensures, ← hash .empty .ensures, ← pay .empty2 .ensures) refl
 
 returns-7 : tie.Need-returns-7
-returns-7 c = rw (c .match .keys7) (cc)
+returns-7 c =
+    let pay = c .before .before .before in
+    let hash = pay .before in
+    let key = hash .before .before .before .before .before in
+    rw (c .match .keys7, ← key .before .zero-handle2 .ensures, ← key .zero-key .ensures, ← hash .empty .ensures, ← pay .empty2 .ensures) refl
 
 returns-8 : tie.Need-returns-8
-returns-8 c = rw (c .match .keys8) (cc)
+returns-8 c =
+    let pay = c .before .before .before in
+    let hash = pay .before in
+    let key = hash .before .before .before .before .before in
+    rw (c .match .keys8, ← key .before .before .zero-handle .ensures, ← key .before .zero-handle2 .ensures, ← key .zero-key .ensures, ← pay .empty2 .ensures) refl
 
 returns-9 : tie.Need-returns-9
-returns-9 c = rw (c .match .keys9) (cc)
+returns-9 c =
+    let pay = c .before .before .before in
+    let hash = pay .before in
+    let key = hash .before .before .before .before .before in
+    rw (c .match .keys9, ← key .before .zero-handle2 .ensures, ← key .zero-key .ensures, ← hash .empty .ensures, ← pay .empty2 .ensures) refl
 
 returns-10 : tie.Need-returns-10
 returns-10 c = rw (no-kind _ (c .match .rest)) refl

@@ -1,0 +1,3 @@
+pub mod Querying
+-- one outcome
+pub mod OneAnswer
