@@ -269,30 +269,53 @@ impl fmt::Display for Totals {
     }
 }
 
+/// What the archive does to the change, which callers of this crate are given
+/// only with a reply.
 #[cfg(test)]
 mod tests {
     use super::*;
     use crate::{Tally, SLOT_BYTES};
 
-    /// The number of a totalling call with a change of 77, and what it leaves, of
-    /// a return with the count 0 of a right that is lent with a kept count of 1.
-    /// The reply buffer has so many bytes.
-    fn left(total: i32, returns: u16, room: usize) -> (u16, Sums) {
-        let mut table = [0; SLOT_BYTES];
+    /// What a totalling call is made with, beside its three numbers.
+    struct Made {
+        table: Vec<u8>,
+        tally: Tally,
+        start: usize,
+        frame: Vec<u8>,
+        reply: Vec<u8>,
+    }
+
+    /// A return with the count 0 of a right that is lent with a kept count of 1.
+    fn give_back() -> Made {
+        let mut table = vec![0; SLOT_BYTES];
         table[0] = 0xC2;
         table[1..11].fill(7);
         (table[28], table[30]) = (1, 1);
-        let mut tally = Tally::of(&table).unwrap();
-        let give_back = [0x25, 0xC0, 0, 12, 7, 7, 7, 7, 7, 7, 7, 7, 7, 7, 0, 0];
-        let mut sums = Sums {
-            total,
-            returns,
-            change: 77,
+        Made {
+            tally: Tally::of(&table).unwrap(),
+            table,
+            start: 0,
+            frame: vec![0x25, 0xC0, 0, 12, 7, 7, 7, 7, 7, 7, 7, 7, 7, 7, 0, 0],
+            reply: vec![0; REPLY_ROOM],
+        }
+    }
+
+    /// The same, but that the call gives one of its numbers. The number is with
+    /// it.
+    fn refused() -> [(u16, Made); 6] {
+        let with = |spoil: fn(&mut Made)| {
+            let mut made = give_back();
+            spoil(&mut made);
+            made
         };
-        let mut reply = vec![0; room];
-        let number =
-            archive::call_totalling(&mut table, &mut tally, 0, &give_back, &mut reply, &mut sums);
-        (number, sums)
+        [
+            (101, with(|made| made.reply.truncate(REPLY_ROOM - 1))),
+            (102, with(|made| made.table.truncate(SLOT_BYTES - 1))),
+            (103, with(|made| made.table[191] = 1)),
+            (104, with(|made| made.frame.truncate(15))),
+            (105, with(|made| made.start = 1)),
+            (106, with(|made| made.tally = Tally::blank(1))),
+        ]
     }
 
     fn sums(total: i32, returns: u16, change: i32) -> Sums {
@@ -303,15 +326,36 @@ mod tests {
         }
     }
 
-    /// With 108 also the change stays; with every other number it is written.
+    /// Asserts that a call with a change of 77 gives this number and leaves these
+    /// three.
+    fn assert_leaves(mut made: Made, (total, returns): (i32, u16), expected: (u16, Sums)) {
+        let mut sums = sums(total, returns, 77);
+        let number = archive::call_totalling(
+            &mut made.table,
+            &mut made.tally,
+            made.start,
+            &made.frame,
+            &mut made.reply,
+            &mut sums,
+        );
+        assert_eq!((number, sums), expected);
+    }
+
     #[test]
-    fn the_change_is_left_with_108_alone() {
-        assert_eq!(left(0, 0, REPLY_ROOM), (0, sums(-1, 1, -1)));
-        assert_eq!(left(0, 0, REPLY_ROOM - 1), (101, sums(0, 0, 0)));
-        for room in [0, REPLY_ROOM - 1, REPLY_ROOM] {
-            for (total, returns) in [(0, 30_000), (1, 0), (65_536, 1), (-65_536, 1)] {
-                let stays = sums(total, returns, 77);
-                assert_eq!(left(total, returns, room), (108, stays));
+    fn the_change_is_written_unless_the_number_is_108() {
+        assert_leaves(give_back(), (-3, 5), (0, sums(-4, 6, -1)));
+        for (number, made) in refused() {
+            assert_leaves(made, (-3, 5), (number, sums(-3, 5, 0)));
+        }
+    }
+
+    #[test]
+    fn with_108_the_change_stays() {
+        for (total, returns) in [(0, 30_000), (1, 0), (65_536, 1), (-65_536, 1)] {
+            let stays = (108, sums(total, returns, 77));
+            assert_leaves(give_back(), (total, returns), stays);
+            for (_, made) in refused() {
+                assert_leaves(made, (total, returns), stays);
             }
         }
     }
