@@ -3,9 +3,8 @@
 //! A recording has the request frames that a card was sent. The program `returns`
 //! makes these calls again, on a card as it was before them, and totals what the
 //! returns did: the change of each, and a running total with the number of
-//! returns in it (PROFILE 4.4, 4.5). It makes each call through
-//! [`Totals`](cavernlull::Totals), so the numbers are those of the proved
-//! archive.
+//! returns in it (PROFILE 4.4, 4.5). It makes each call through [`Totals`], so the
+//! numbers are those of the proved archive.
 //!
 //! ```sh
 //! cargo run --release --manifest-path rust/Cargo.toml --package planners -- rust/planners/samples/week.txt
