@@ -138,8 +138,8 @@ impl Totals {
     /// full.
     pub fn holds(&self) -> bool {
         // There is no card to be called, but the numbers are looked at first.
-        let asked = Totals::call_frame(&mut { *self }, &mut Card::blank(0), &[], &mut []);
-        asked != Err(TotallingError::TotalOutside)
+        let (mut asked, mut no_card) = (*self, Card::blank(0));
+        asked.call_frame(&mut no_card, &[], &mut []) != Err(TotallingError::TotalOutside)
     }
 
     /// Has the card answer a request as [`Card::call`] does, and adds what it
