@@ -25,7 +25,7 @@ pub struct Entry {
     /// The five kind bits of the frame, 0 to 31.
     pub kind: u8,
     /// The handle that the request names, if its kind has one and it is as long
-    /// as its kind is.
+    /// as its kind is; nothing where there is no reply.
     pub handle: Option<Handle>,
     /// The new handle, in the same way: that under which a course is lent.
     pub new_handle: Option<Handle>,

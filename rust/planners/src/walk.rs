@@ -83,7 +83,7 @@ impl Walk {
             .filter(|_| kind_bits(frame) == Kind::RightsEnablement.number())
             .map(|totalled| returned(frame, &totalled, lent != self.card.tally().disabled));
         self.calls += 1;
-        let [handle, new_handle] = handles_in(frame);
+        let [handle, new_handle] = given.map_or([None, None], |_| handles_in(frame));
         let entry = Entry {
             period: self.period.period,
             call: self.calls,

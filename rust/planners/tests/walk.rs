@@ -129,7 +129,13 @@ fn bytes_of_another_length_show_no_handle() {
 
 #[test]
 fn a_call_without_a_reply_has_its_number() {
-    for text in ["25", "25 c0 00 0c 41 41", "25 c0 00 00 00"] {
+    let as_long_as_a_return = "25 c0 00 00".to_owned() + &"41".repeat(12);
+    for text in [
+        "25",
+        "25 c0 00 0c 41 41",
+        "25 c0 00 00 00",
+        &as_long_as_a_return,
+    ] {
         let (entries, periods) = parted(rows(text, lent(&[Some(9)]), Totals::new()));
         let no_frame = Outcome::NoReply(CallError::NoFrame);
         assert_eq!((entries[0].outcome, entries[0].handle), (no_frame, None));
