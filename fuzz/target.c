@@ -2,9 +2,11 @@
  * rights without a hash, and then what is done with it: requests of every kind and frames of any bytes, each with a tally and
  * from a start, changes to the table, turnings, salvages, and tallies worked out. After each call the number, the reply buffer, the
  * table and the tally must be those of the agent in C (counterparts/c/agent.c), and so must a tally that is worked out, and number,
- * report buffer and table of a salvage; a table that was salvaged must have a tally, and nothing to clear; after each turning, number
- * and table must be those of the turning below; every request that is written must have the kind and the count's bit asked for, and
- * the verdict 1; no installation may be written without a hash; and every reply must be one that the reply reader takes.
+ * report buffer and table of a salvage; each call is made as a totalling call too, on copies and with totals that can be or
+ * cannot, and must give the same, with the change and the totals that are worked out below; a table that was salvaged must have a
+ * tally, and nothing to clear; after each turning, number and table must be those of the turning below; every request that is
+ * written must have the kind and the count's bit asked for, and the verdict 1; no installation may be written without a hash; and
+ * every reply must be one that the reply reader takes.
  *
  * All memory is lent in allocations of exactly its length, so that the address sanitiser sees any access outside it.
  */
@@ -53,6 +55,11 @@ static uint8_t *lent(size_t length, uint8_t byte) {
     return s;
 }
 
+static void *lent_copy(const void *bytes, size_t length) {
+    uint8_t *s = lent(length, 0);
+    return length ? memcpy(s, bytes, length) : s;
+}
+
 static void same(const void *a, const void *b, size_t length) {
     if (memcmp(a, b, length) != 0) abort();
 }
@@ -67,8 +74,7 @@ struct tables {
 
 /* ---- tallies */
 static struct cavernlull_tally *lent_tally(const struct cavernlull_tally *tally) {
-    void *lent_bytes = lent(sizeof *tally, 0);
-    return memcpy(lent_bytes, tally, sizeof *tally);
+    return lent_copy(tally, sizeof *tally);
 }
 
 /* The tally that is kept, as a rule, else one that has another number: one more, one less, or any. */
@@ -98,10 +104,32 @@ static uint16_t work_out(struct tables *t) {
     return number;
 }
 
+/* ---- totals: those that can be, with any change */
+struct sums {
+    int32_t total, change;
+    uint16_t returns;
+};
+
+/* A total that is a sum of few or of nearly 30,000 returns as a rule, at either end or between them, else one that is outside by
+ * one, or any numbers. */
+static struct sums take_sums(struct input *in) {
+    uint8_t how = take(in), few = take(in);
+    uint16_t returns = how < 200 ? few : how < 240 ? (uint16_t)(29984 + few % 17) : take_word(in);
+    int64_t most = (int64_t)CAVERNLULL_MOST_CHANGE * returns, part = most ? take_word(in) % (most + 1) : 0;
+    int64_t totals[] = {most, -most, part, -part, most + 1, -most - 1, (int64_t)take_word(in) << 16 | take_word(in), 0};
+    return (struct sums){(int32_t)totals[how & 7], (int32_t)take_word(in) - 32768, returns};
+}
+
+static int sums_hold(const struct sums *s) {
+    int64_t most = (int64_t)CAVERNLULL_MOST_CHANGE * s->returns;
+    return s->returns < CAVERNLULL_MOST_RETURNS && s->total <= most && s->total >= -most;
+}
+
 /* ---- calls */
 struct beside {
     struct cavernlull_tally tally;
     size_t start;
+    struct sums sums;
 };
 
 /* A start: a slot of the table as a rule, else a number up to 15, or one with its low bits or its high bits 0. */
@@ -114,8 +142,9 @@ static size_t take_start(struct input *in, const struct tables *t) {
 
 /* What a call is handed beside table, frame and reply buffer. */
 static struct beside take_beside(struct input *in, const struct tables *t) {
-    struct beside b = {take_tally(in, t), 0};
+    struct beside b = {take_tally(in, t), 0, {0, 0, 0}};
     b.start = take_start(in, t);
+    b.sums = take_sums(in);
     return b;
 }
 
@@ -127,15 +156,85 @@ static void must_read(const uint8_t *reply) {
     if (fields[CAVERNLULL_REPLY_KEPT] != reply[1] >> 7) abort();
 }
 
+/* A totalling call, made on copies of what a call is made with: the table before it, and what it was lent. */
+struct totalled {
+    uint8_t *before, *table, *reply;
+    struct cavernlull_tally *tally;
+    int32_t *total, *change;
+    uint16_t *returns, number;
+};
+
+static struct totalled call_totalling(const struct tables *t, const struct beside *b, const uint8_t *frame, size_t length,
+                                      size_t room) {
+    struct totalled c = {lent_copy(t->ours, t->length), lent_copy(t->ours, t->length), lent(room, 0xa5), lent_tally(&b->tally),
+                         lent_copy(&b->sums.total, sizeof b->sums.total), lent_copy(&b->sums.change, sizeof b->sums.change),
+                         lent_copy(&b->sums.returns, sizeof b->sums.returns), 0};
+    c.number = cavernlull_call_totalling(c.table, t->length, c.tally, b->start, frame, length, c.reply, room, c.total, c.returns,
+                                         c.change);
+    return c;
+}
+
+static void free_totalled(struct totalled *c) {
+    free(c->before);
+    free(c->table);
+    free(c->reply);
+    free(c->tally);
+    free(c->total);
+    free(c->change);
+    free(c->returns);
+}
+
+/* The record under the handle of a return that was a success: the table before it has one. */
+static const uint8_t *record_of(const uint8_t *table, size_t length, const uint8_t *frame) {
+    for (size_t at = 0; at < length; at += SLOT)
+        if (table[at] != 0 && memcmp(table + at + 1, frame + 4, HANDLE) == 0) return table + at;
+    abort();
+}
+
+/* Adds what a call with a reply did to the count (PROFILE 4.4). */
+static void add_change(struct sums *s, const uint8_t *table, size_t length, const uint8_t *frame, const uint8_t *reply) {
+    s->change = 0;
+    if ((frame[0] & 31) != CAVERNLULL_RIGHTS_ENABLEMENT || reply[1] != CAVERNLULL_SUCCESS) return;
+    const uint8_t *record = record_of(table, length, frame);
+    if (record[0] >> 6 != 3 || !(record[0] & CAVERNLULL_KEPT_IN_SLOT) || !(frame[1] & CAVERNLULL_KEPT_IN_REQUEST)) return;
+    s->change = (frame[14] << 8 | frame[15]) - (record[27] << 8 | record[28]);
+    s->total += s->change;
+    s->returns++;
+}
+
+/* A totalling call must have done what the call did, of which these are number, reply buffer and tally, and must have added its
+ * change; with 108 it must have done nothing. */
+static void must_total(const struct totalled *c, const struct tables *t, const struct beside *b, const uint8_t *frame,
+                       uint16_t number, const uint8_t *reply, size_t room, const struct cavernlull_tally *tally) {
+    struct sums sums = b->sums;
+    if (sums_hold(&sums)) {
+        if (c->number != number) abort();
+        same(c->reply, reply, room);
+        same(c->table, t->ours, t->length);
+        same(c->tally, tally, sizeof *tally);
+        if (number == 0) add_change(&sums, c->before, t->length, frame, reply);
+        else sums.change = 0;
+    } else {
+        if (c->number != CAVERNLULL_TOTAL_OUTSIDE) abort();
+        for (size_t i = 0; i < room; i++)
+            if (c->reply[i] != 0xa5) abort();
+        same(c->table, c->before, t->length);
+        same(c->tally, &b->tally, sizeof *tally);
+    }
+    if (*c->total != sums.total || *c->returns != sums.returns || *c->change != sums.change) abort();
+}
+
 static void call(struct tables *t, const struct beside *b, const uint8_t *bytes, size_t length, size_t room) {
-    uint8_t *frame = lent(length, 0), *reply = lent(room, 0xa5), *other = lent(room, 0xa5);
+    uint8_t *frame = lent_copy(bytes, length), *reply = lent(room, 0xa5), *other = lent(room, 0xa5);
     struct cavernlull_tally *ours = lent_tally(&b->tally), *theirs = lent_tally(&b->tally);
-    if (length) memcpy(frame, bytes, length);
+    struct totalled totalled = call_totalling(t, b, frame, length, room);
     uint16_t number = cavernlull_call(t->ours, t->length, ours, b->start, frame, length, reply, room);
     if (number != c_agent(t->theirs, t->length, theirs, b->start, frame, length, other, room)) abort();
     same(reply, other, room);
     same(t->ours, t->theirs, t->length);
     same(ours, theirs, sizeof *ours);
+    must_total(&totalled, t, b, frame, number, reply, room, ours);
+    free_totalled(&totalled);
     if (number == 0) {
         must_read(reply);
         t->tally = *ours;
@@ -340,13 +439,18 @@ static void any_reply(struct input *in) {
 }
 
 /* Puts rights without a hash (PROFILE 2.9) into the first three slots of a blank table, under handles that requests are about: the
- * second one is lent. No call brings such a right. */
-static void put_old_rights(struct tables *t) {
+ * second one is lent, and keeps a count if `kept` is not 0. No call brings such a right. */
+static void put_old_rights(struct tables *t, int kept, uint16_t count) {
     for (size_t i = 0; i < 3 && (i + 1) * SLOT <= t->length; i++) {
         uint8_t *s = t->ours + i * SLOT;
         s[0] = i == 1 ? 0xc0 : 0x80;
         memset(s + 1, (int)i, HANDLE);
         memset(s + 11, 7, CAVERNLULL_KEY_BYTES);
+        if (i == 1 && kept) {
+            s[0] |= CAVERNLULL_KEPT_IN_SLOT;
+            s[27] = (uint8_t)(count >> 8);
+            s[28] = (uint8_t)count;
+        }
         s[30] = 1;
         s[192] = 7;
     }
@@ -359,7 +463,8 @@ int LLVMFuzzerTestOneInput(const uint8_t *bytes, size_t length) {
     uint8_t slots = take(&in);
     size_t size = (size_t)(slots & 15) * SLOT + (slots >> 4 == 15 ? take(&in) : 0);
     struct tables t = {lent(size, 0), lent(size, 0), size, {(uint16_t)(size / SLOT), 0, 0, 0, 0}};
-    if (slots >> 4 >= 12) put_old_rights(&t);
+    if (slots >> 4 == 12 || slots >> 4 == 15) put_old_rights(&t, 0, 0);
+    else if (slots >> 4 >= 10) put_old_rights(&t, 1, take_word(&in));
     for (unsigned steps = 0; in.left > 0 && steps < 64; steps++) {
         uint8_t what = take(&in) % 17;
         if (what >= 1 && what <= 9) request(&in, &t, what);

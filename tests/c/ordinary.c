@@ -1,13 +1,13 @@
 /* An ordinary C program that links libcavernlull.a, as a front end or a device does: one course on its way through a card of
  * two slots. It is set up, installed, listed, lent, refused a second time and under a handle in use, returned and removed. Then
- * it is set up with other starts, and in one slot after the other; it has a count of 1, which is used up and stays so; it is
- * refused without a hash, and used where a card holds it so; it is on an old card, whose table is turned, and on a damaged one,
- * which is salvaged. The card's tally is kept beside its table, and lent with each call.
+ * it is set up with other starts, and in one slot after the other; it has a count of 1, which is used up and stays so; its
+ * returns are totalled; it is refused without a hash, and used where a card holds it so; it is on an old card, whose table is
+ * turned, and on a damaged one, which is salvaged. The card's tally is kept beside its table, and lent with each call.
  *
  * Each step is checked against what the header promises: the number, every byte of the reply buffer, every byte of the table,
- * the five numbers of the tally, what the reply reader reads in the reply, and the listing. The expected bytes and numbers are
- * written here by hand. The program prints the first check that fails and exits with 1, or prints how many checks held and exits
- * with 0.
+ * the five numbers of the tally, the three of a total, what the reply reader reads in the reply, and the listing. The expected
+ * bytes and numbers are written here by hand. The program prints the first check that fails and exits with 1, or prints how many
+ * checks held and exits with 0.
  */
 #include "cavernlull.h"
 
@@ -387,6 +387,140 @@ static void counts(struct count first, struct count then) {
     write_plain(CAVERNLULL_RIGHTS_REMOVAL, course, none, 0);
     memset(expected, 0, sizeof expected);
     done();
+}
+
+/* ---- totals: what returns did to counts (PROFILE 4.5); before and afterwards the card is empty */
+enum { LEAST = -2147483647 - 1, GREATEST = 2147483647 }; /* of 32 bits */
+
+/* The three numbers, each between two others, so that a write beside it shows. */
+struct sums {
+    int32_t before_total, total, before_change, change, after_change;
+    uint16_t before_returns, returns, after_returns;
+};
+
+static struct sums sums;
+
+/* The three numbers are these, and nothing beside them has changed. */
+static int summed(int32_t total, uint16_t returns, int32_t change) {
+    int beside = sums.before_total == FILLER && sums.before_change == FILLER && sums.after_change == FILLER &&
+                 sums.before_returns == FILLER && sums.after_returns == FILLER;
+    return beside && sums.total == total && sums.returns == returns && sums.change == change;
+}
+
+/* The number of a totalling call with this total and these returns. The change is 77 before. */
+static uint16_t call_totalling(int32_t total, uint16_t returns, size_t table_length, size_t frame_length, size_t reply_length) {
+    sums = (struct sums){FILLER, total, FILLER, 77, FILLER, FILLER, returns, FILLER};
+    memset(reply, FILLER, sizeof reply);
+    return cavernlull_call_totalling(table, table_length, &tally, start, frame, frame_length, reply, reply_length, &sums.total,
+                                     &sums.returns, &sums.change);
+}
+
+/* The course is lent under `borrower`, with this count. */
+static void put_lent(struct count count) {
+    put_right(DISABLED, borrower, count);
+    memcpy(table, expected, sizeof table);
+    tally = expected_tally();
+}
+
+/* It is lent with `first` and returned with `then`, which is a success. A counted return has this change. */
+static void returns_totalled(struct count first, struct count then, int counted, int32_t change) {
+    static const struct {
+        int32_t total;
+        uint16_t returns;
+    } before[] = {{0, 0}, {-7, 3}, {-65535 * 29999, 29999}, {65535 * 29999, 29999}};
+    for (size_t i = 0; i < sizeof before / sizeof before[0]; i++) {
+        put_lent(first);
+        write_return(borrower, then);
+        put_right(ENABLED, borrower, then);
+        CHECK(call_totalling(before[i].total, before[i].returns, sizeof table, length_of(frame), sizeof reply) == CAVERNLULL_DONE);
+        CHECK(summed(before[i].total + change, (uint16_t)(before[i].returns + counted), change));
+        CHECK(reply[0] == frame[0] && filled(reply + 1, 3, 0) && filled(reply + 4, sizeof reply - 4, FILLER));
+        CHECK(memcmp(table, expected, sizeof table) == 0);
+        CHECK(same_tally(tally, expected_tally()));
+    }
+}
+
+/* A return that is sent again, a lending and a refused return are not counted. */
+static void others_totalled(void) {
+    write_return(borrower, kept(3));
+    CHECK(call_totalling(-7, 3, sizeof table, length_of(frame), sizeof reply) == CAVERNLULL_DONE);
+    CHECK(summed(-7, 3, 0) && reply[1] == CAVERNLULL_SUCCESS);
+    CHECK(memcmp(table, expected, sizeof table) == 0);
+    write_return(other, kept(3));
+    CHECK(call_totalling(-7, 3, sizeof table, length_of(frame), sizeof reply) == CAVERNLULL_DONE);
+    CHECK(summed(-7, 3, 0) && reply[1] == CAVERNLULL_HANDLE_NOT_FOUND);
+    write_plain(CAVERNLULL_REK_QUERY, borrower, course, 0);
+    put_right(DISABLED, course, kept(9));
+    CHECK(call_totalling(-7, 3, sizeof table, length_of(frame), sizeof reply) == CAVERNLULL_DONE);
+    CHECK(summed(-7, 3, 0) && memcmp(reply + 4, key, sizeof key) == 0);
+    CHECK(memcmp(table, expected, sizeof table) == 0);
+}
+
+/* The totalling call gives this number and leaves all but the change, which becomes this. */
+static void totalling_refused(uint16_t number, int32_t total, uint16_t returns, int32_t change, size_t table_length,
+                              size_t frame_length, size_t reply_length) {
+    struct cavernlull_tally before = tally;
+    CHECK(call_totalling(total, returns, table_length, frame_length, reply_length) == number);
+    CHECK(summed(total, returns, change));
+    CHECK(filled(reply, sizeof reply, FILLER));
+    CHECK(memcmp(table, expected, sizeof table) == 0);
+    CHECK(same_tally(tally, before));
+}
+
+/* These numbers cannot be: with 108, which comes before all else, also the change is as it was. */
+static void total_outside(int32_t total, uint16_t returns) {
+    const uint16_t number = CAVERNLULL_TOTAL_OUTSIDE;
+    totalling_refused(number, total, returns, 77, TABLE_BYTES, length_of(frame), CAVERNLULL_REPLY_ROOM);
+    totalling_refused(number, total, returns, 77, TABLE_BYTES, 3, CAVERNLULL_REPLY_ROOM);
+    totalling_refused(number, total, returns, 77, TABLE_BYTES - 1, length_of(frame), CAVERNLULL_REPLY_ROOM);
+    totalling_refused(number, total, returns, 77, 0, 0, 0);
+}
+
+/* A return that is refused: with each number of the call the change is 0, and with 108 it is as it was. */
+static void totalling_refusals(void) {
+    put_lent(kept(9));
+    write_return(borrower, kept(4));
+    totalling_refused(CAVERNLULL_REPLY_BUFFER_SHORT, -7, 3, 0, 0, 3, CAVERNLULL_REPLY_ROOM - 1);
+    totalling_refused(CAVERNLULL_TABLE_LENGTH, -7, 3, 0, TABLE_BYTES - 1, 3, CAVERNLULL_REPLY_ROOM);
+    totalling_refused(CAVERNLULL_NO_FRAME, -7, 3, 0, TABLE_BYTES, 15, CAVERNLULL_REPLY_ROOM);
+    start = SLOTS;
+    totalling_refused(CAVERNLULL_START_OUTSIDE, -7, 3, 0, TABLE_BYTES, length_of(frame), CAVERNLULL_REPLY_ROOM);
+    start = 0;
+    tally.payload++;
+    totalling_refused(CAVERNLULL_TALLY_DIFFERS, -7, 3, 0, TABLE_BYTES, length_of(frame), CAVERNLULL_REPLY_ROOM);
+    tally.payload--;
+    table[TABLE_BYTES - 1] = expected[TABLE_BYTES - 1] = 1; /* an empty slot with a byte set */
+    totalling_refused(CAVERNLULL_TABLE_NOT_WELL_FORMED, -7, 3, 0, TABLE_BYTES, length_of(frame), CAVERNLULL_REPLY_ROOM);
+    total_outside(0, CAVERNLULL_MOST_RETURNS);
+    table[TABLE_BYTES - 1] = expected[TABLE_BYTES - 1] = 0;
+    total_outside(0, CAVERNLULL_MOST_RETURNS);
+    total_outside(0, 65535);
+    total_outside(1, 0);
+    total_outside(-1, 0);
+    total_outside(CAVERNLULL_MOST_CHANGE + 1, 1);
+    total_outside(-CAVERNLULL_MOST_CHANGE - 1, 1);
+    total_outside(CAVERNLULL_MOST_CHANGE * 29999 + 1, 29999);
+    total_outside(-CAVERNLULL_MOST_CHANGE * 29999 - 1, 29999);
+    total_outside(LEAST, 29999);
+    total_outside(GREATEST, 65535);
+}
+
+static void totals(void) {
+    returns_totalled(kept(9), kept(4), 1, -5);
+    returns_totalled(kept(4), kept(9), 1, 5);
+    returns_totalled(kept(9), kept(9), 1, 0);
+    returns_totalled(kept(65535), kept(0), 1, -CAVERNLULL_MOST_CHANGE);
+    returns_totalled(kept(0), kept(65535), 1, CAVERNLULL_MOST_CHANGE);
+    returns_totalled(kept(9), no_count, 0, 0);
+    returns_totalled(no_count, kept(9), 0, 0);
+    returns_totalled(no_count, no_count, 0, 0);
+    returns_totalled(kept(10), kept(9), 1, -1);
+    others_totalled();
+    totalling_refusals();
+    memset(table, 0, sizeof table);
+    memset(expected, 0, sizeof expected);
+    tally = expected_tally();
+    tallied(2, 0, 0, 0, 0);
 }
 
 /* ---- rights without a hash: none is installed (PROFILE 5.2), and those that a card holds are used (PROFILE 2.9) */
@@ -772,6 +906,7 @@ int main(void) {
     counts(no_count, no_count);
     counts(kept(0xFFFF), no_count);
     counts(no_count, kept(256));
+    totals();
     installs_none_without_a_hash();
     uses_old_rights();
     turns();

@@ -232,9 +232,14 @@ impl<T: AsRef<[u8]> + AsMut<[u8]>> Card<T> {
         frame: &[u8],
         reply: &'reply mut [u8],
     ) -> Result<&'reply [u8], CallError> {
-        let (table, tally) = (self.table.as_mut(), &mut self.tally);
+        let (table, tally) = self.parts_mut();
         CallError::of(archive::call(table, tally, start, frame, reply))?;
         Ok(archive::frame_in(reply))
+    }
+
+    /// The table and its tally, to be lent to the archive.
+    pub(crate) fn parts_mut(&mut self) -> (&mut [u8], &mut Tally) {
+        (self.table.as_mut(), &mut self.tally)
     }
 
     /// Turns an old table, once: a table that a version before 3.0.0 wrote, in

@@ -1,5 +1,5 @@
 //! What the agent, the request writer, the reply reader, the turning, the
-//! working out of a tally and the salvage refuse.
+//! working out of a tally, the salvage and the totalling call refuse.
 //!
 //! A refusal leaves all lent memory as it was.
 
@@ -113,9 +113,38 @@ pub enum SalvageError {
     ReportBufferShort,
 }
 
-/// Any of these errors but [`SalvageError`], for functions that can meet
-/// several. That one came in a minor version, and a `match` on this type stays
-/// complete.
+/// A totalling call was not answered: there is no reply, and table, tally and
+/// totals are as they were.
+///
+/// ```
+/// use cavernlull::{CallError, Card, TotallingError, Totals, REPLY_ROOM};
+///
+/// let (mut card, mut buffer) = (Card::blank(1), [0; REPLY_ROOM]);
+/// let no_frame = Totals::new().call_frame(&mut card, &[], &mut buffer);
+/// assert_eq!(no_frame, Err(TotallingError::Call(CallError::NoFrame)));
+/// let mixed_up = Totals::from_parts(3, 0).call_frame(&mut card, &[], &mut buffer);
+/// assert_eq!(mixed_up, Err(TotallingError::TotalOutside));
+/// ```
+#[derive(Clone, Copy, Debug, PartialEq, Eq, Hash)]
+pub enum TotallingError {
+    /// 108: 30,000 returns are counted, or the total is more than 65,535 for
+    /// each of its returns, above or below 0. It is looked at before everything
+    /// that a call looks at, whatever the card and the frame.
+    ///
+    /// Totals that began with 0 and 0 are refused so when they are
+    /// [full](crate::Totals::is_full), and never before.
+    TotalOutside,
+    /// The request cannot be written. A call with a frame is never refused so.
+    Write(WriteError),
+    /// The agent did not answer.
+    Call(CallError),
+    /// The reply cannot be read. A call with a frame is never refused so.
+    Read(ReadError),
+}
+
+/// Any of these errors but [`SalvageError`] and [`TotallingError`], for functions
+/// that can meet several. Those came in minor versions, and a `match` on this
+/// type stays complete.
 #[derive(Clone, Copy, Debug, PartialEq, Eq, Hash)]
 pub enum Error {
     /// The request cannot be written.
@@ -267,6 +296,27 @@ impl SalvageError {
     }
 }
 
+impl TotallingError {
+    /// The number that the archive gives for this error: 108, or the number of
+    /// the error within.
+    pub const fn number(self) -> u16 {
+        match self {
+            TotallingError::TotalOutside => 108,
+            TotallingError::Write(error) => error.number(),
+            TotallingError::Call(error) => error.number(),
+            TotallingError::Read(error) => error.number(),
+        }
+    }
+
+    /// What a number from the archive means.
+    pub(crate) fn of(number: u16) -> Result<(), TotallingError> {
+        match number {
+            108 => Err(TotallingError::TotalOutside),
+            _ => Ok(CallError::of(number)?),
+        }
+    }
+}
+
 /// The archive is proved to give no number but those above.
 fn unknown(number: u16) -> ! {
     panic!("the archive gave {number}, which it never does: is it another version's?")
@@ -346,6 +396,19 @@ impl fmt::Display for SalvageError {
     }
 }
 
+impl fmt::Display for TotallingError {
+    fn fmt(&self, f: &mut fmt::Formatter<'_>) -> fmt::Result {
+        match self {
+            TotallingError::TotalOutside => {
+                f.write_str("the total is full, or cannot be the sum of so many returns")
+            }
+            TotallingError::Write(error) => error.fmt(f),
+            TotallingError::Call(error) => error.fmt(f),
+            TotallingError::Read(error) => error.fmt(f),
+        }
+    }
+}
+
 impl fmt::Display for Error {
     fn fmt(&self, f: &mut fmt::Formatter<'_>) -> fmt::Result {
         match self {
@@ -369,6 +432,8 @@ impl error::Error for TurnError {}
 impl error::Error for TallyError {}
 
 impl error::Error for SalvageError {}
+
+impl error::Error for TotallingError {}
 
 impl error::Error for Error {}
 
@@ -399,5 +464,23 @@ impl From<TurnError> for Error {
 impl From<TallyError> for Error {
     fn from(error: TallyError) -> Error {
         Error::Tally(error)
+    }
+}
+
+impl From<CallError> for TotallingError {
+    fn from(error: CallError) -> TotallingError {
+        TotallingError::Call(error)
+    }
+}
+
+impl From<WriteError> for TotallingError {
+    fn from(error: WriteError) -> TotallingError {
+        TotallingError::Write(error)
+    }
+}
+
+impl From<ReadError> for TotallingError {
+    fn from(error: ReadError) -> TotallingError {
+        TotallingError::Read(error)
     }
 }

@@ -2,22 +2,25 @@
 //!
 //! A shop loads training courses onto cards as rights; the agent in the card
 //! keeps them in a table of slots, lends them, takes them back and removes
-//! them, by request frames. The agent, the request writer, the reply reader, the
-//! listing, the tally, the turning of old tables and the salvage of damaged ones
-//! are proved code in an archive, `libcavernlull.a`; this crate gives them the
-//! types that Rust expects and adds nothing to what they do.
+//! them, by request frames. The agent, the totals of what returns did to counts,
+//! the request writer, the reply reader, the listing, the tally, the turning of
+//! old tables and the salvage of damaged ones are proved code in an archive,
+//! `libcavernlull.a`; this crate gives them the types that Rust expects and adds
+//! nothing to what they do.
 //!
 //! | | |
 //! |---|---|
 //! | [`Card`] | a table of slots with its tally, and the agent that answers requests about it |
 //! | [`Rotation`] | where setups begin to look for an empty slot, so that all slots wear alike |
+//! | [`Totals`] | what returns did to counts over many calls, for course planners |
+//! | [`Totalled`] | a reply, with what its call did to the count |
 //! | [`Request`] | a request of one of nine [kinds](Kind), and its frame |
 //! | [`Reply`] | what the card answered, read from the frame of a reply |
 //! | [`Listing`] | what is in the slots, as text |
 //! | [`Tally`] | how a table is filled: the slots of each place, and the payload bytes |
 //! | [`Report`] | what a [salvage](Card::salvage) of a damaged card found of each slot, as a [`Finding`] |
 //! | [`Right`] | what a right holds: [`Key`], count, [hashes](AssetHash), payload |
-//! | [`CallError`], [`WriteError`], [`ReadError`], [`TurnError`], [`TallyError`], [`SalvageError`] | what the agent, the writer, the reader, the turning, the tally and the salvage refuse |
+//! | [`CallError`], [`WriteError`], [`ReadError`], [`TurnError`], [`TallyError`], [`SalvageError`], [`TotallingError`] | what the agent, the writer, the reader, the turning, the tally, the salvage and the totalling call refuse |
 //!
 //! # Example
 //!
@@ -95,9 +98,11 @@ mod right;
 mod rotation;
 mod status;
 mod tally;
+mod totals;
 mod verdict;
 
 pub use card::Card;
+pub use error::TotallingError;
 pub use error::{CallError, Error, ReadError, SalvageError, TallyError, TurnError, WriteError};
 pub use kind::Kind;
 pub use listing::Listing;
@@ -108,6 +113,7 @@ pub use right::{AssetHash, Handle, Key, Right};
 pub use rotation::Rotation;
 pub use status::Status;
 pub use tally::Tally;
+pub use totals::{Totalled, Totals};
 pub use verdict::Verdict;
 
 /// The bytes of a slot.
@@ -140,3 +146,9 @@ pub const MOST_HASHES: usize = 8;
 
 /// The bytes of the longest listing.
 pub const LISTING_ROOM: usize = 406;
+
+/// The most that one return can change a count, either way.
+pub const MOST_CHANGE: i32 = 65_535;
+
+/// The most counted returns in a total.
+pub const MOST_RETURNS: u16 = 30_000;

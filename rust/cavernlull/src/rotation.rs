@@ -1,6 +1,7 @@
 //! Setups that take the slots of a card in rotation.
 
 use crate::{CallError, Card, Error, Handle, Reply, Request, Verdict};
+use crate::{Totalled, TotallingError, Totals};
 use crate::{HANDLE_BYTES, SLOT_BYTES};
 
 /// The reply to a setup that was carried out, and to nothing else.
@@ -108,10 +109,41 @@ impl Rotation {
         verdict: Verdict,
     ) -> Result<Reply, Error> {
         let reply = card.call_from(self.start_on(card.table()), request, verdict)?;
-        if let (Request::InstallationSetup { handle, .. }, Reply::Done(_)) = (request, &reply) {
-            self.pass(card.table(), handle);
-        }
+        self.follow(card.table(), request, &reply);
         Ok(reply)
+    }
+
+    /// Has the card answer a request, as [`Totals::call`] does, with the start
+    /// of this rotation, and moves it as [`call`](Rotation::call) does. So the
+    /// slots of a card are used in turn and its returns are totalled.
+    ///
+    /// # Errors
+    ///
+    /// Those of [`Totals::call`]: the start is never outside the card.
+    ///
+    /// ```
+    /// use cavernlull::{Card, Handle, Request, Rotation, Totals, Verdict};
+    ///
+    /// let mut card = Card::blank(3);
+    /// let (mut rotation, mut totals) = (Rotation::new(), Totals::new());
+    /// for n in [1, 2] {
+    ///     let setup = Request::InstallationSetup { handle: Handle([n; 10]), room: 9 };
+    ///     rotation.call_totalling(&mut totals, &mut card, &setup, Verdict::Held)?;
+    /// }
+    /// assert_eq!((rotation.start(), totals), (2, Totals::new()));
+    /// # Ok::<(), cavernlull::TotallingError>(())
+    /// ```
+    pub fn call_totalling<T: AsRef<[u8]> + AsMut<[u8]>>(
+        &mut self,
+        totals: &mut Totals,
+        card: &mut Card<T>,
+        request: &Request,
+        verdict: Verdict,
+    ) -> Result<Totalled, TotallingError> {
+        let start = self.start_on(card.table());
+        let totalled = totals.call_from(card, start, request, verdict)?;
+        self.follow(card.table(), request, &totalled.reply);
+        Ok(totalled)
     }
 
     /// Has the card answer a request frame, as [`Card::call_frame`] does, with
@@ -142,11 +174,28 @@ impl Rotation {
         reply: &'reply mut [u8],
     ) -> Result<&'reply [u8], CallError> {
         let answer = card.call_frame_from(self.start_on(card.table()), frame, reply)?;
-        if answer == SETUP_DONE {
-            let handle = frame[HANDLE_AT..][..HANDLE_BYTES].try_into();
-            self.pass(card.table(), &Handle(handle.expect("a setup has a handle")));
-        }
+        self.follow_frame(card.table(), frame, answer);
         Ok(answer)
+    }
+
+    /// Has the card answer a request frame, as [`Totals::call_frame`] does, with
+    /// the start of this rotation, and moves it as [`call`](Rotation::call)
+    /// does.
+    ///
+    /// # Errors
+    ///
+    /// Those of [`Totals::call_frame`]: the start is never outside the card.
+    pub fn call_frame_totalling<'reply, T: AsRef<[u8]> + AsMut<[u8]>>(
+        &mut self,
+        totals: &mut Totals,
+        card: &mut Card<T>,
+        frame: &[u8],
+        reply: &'reply mut [u8],
+    ) -> Result<Totalled<&'reply [u8]>, TotallingError> {
+        let start = self.start_on(card.table());
+        let totalled = totals.call_frame_from(card, start, frame, reply)?;
+        self.follow_frame(card.table(), frame, totalled.reply);
+        Ok(totalled)
     }
 
     /// The start on a card with this table. On one without a whole slot it is
@@ -154,6 +203,21 @@ impl Rotation {
     fn start_on(&self, table: &[u8]) -> usize {
         let slots = table.len() / SLOT_BYTES;
         self.start.checked_rem(slots).unwrap_or(0)
+    }
+
+    /// Goes on after a setup that was carried out, and stays after all else.
+    fn follow(&mut self, table: &[u8], request: &Request, reply: &Reply) {
+        if let (Request::InstallationSetup { handle, .. }, Reply::Done(_)) = (request, reply) {
+            self.pass(table, handle);
+        }
+    }
+
+    /// The same for a frame and the frame of its reply.
+    fn follow_frame(&mut self, table: &[u8], frame: &[u8], reply: &[u8]) {
+        if reply == SETUP_DONE {
+            let handle = frame[HANDLE_AT..][..HANDLE_BYTES].try_into();
+            self.pass(table, &Handle(handle.expect("a setup has a handle")));
+        }
     }
 
     /// Goes on to the slot after the one that has the record under this handle.

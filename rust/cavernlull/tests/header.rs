@@ -38,6 +38,8 @@ fn sizes_are_those_of_the_header() {
         ("HASH_BYTES", HASH_BYTES),
         ("MOST_HASHES", MOST_HASHES),
         ("LISTING_ROOM", LISTING_ROOM),
+        ("MOST_CHANGE", MOST_CHANGE as usize),
+        ("MOST_RETURNS", MOST_RETURNS.into()),
     ] {
         assert_eq!(constants.get(name), Some(&size), "{name}");
     }
@@ -95,6 +97,7 @@ fn errors_are_those_of_the_header() {
             "REPORT_BUFFER_SHORT",
             SalvageError::ReportBufferShort.number(),
         ),
+        ("TOTAL_OUTSIDE", TotallingError::TotalOutside.number()),
     ] {
         assert_eq!(constants.get(name), Some(&number.into()), "{name}");
     }

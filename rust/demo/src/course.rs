@@ -128,9 +128,9 @@ fn lending() -> Vec<Step> {
         step("The other course is lent under the same handle", lend(OTHER, LENT), Status::DuplicateHandle,
             "The handle is taken. It is looked for before anything is written: the other course stays as it was."),
         step("The course comes back", give_back(LENT, 9), Status::Success,
-            "It is for use again, with the nine uses that are left."),
+            "It is for use again, with the nine uses that are left. One of ten was used, and planners total that."),
         step("The message is sent again", give_back(LENT, 3), Status::Success,
-            "A return whose reply was lost can be repeated. The count of a course for use is not set again."),
+            "A return whose reply was lost can be repeated. The count of a course for use is not set again, nor is the return counted."),
     ]
 }
 

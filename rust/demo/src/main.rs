@@ -1,13 +1,14 @@
 //! Courses on one card, as the order desk sees it: `make demo`.
 //!
 //! Each step is a request, with its frame and the card's reply in hex, what
-//! they mean, and the card's tally and listing afterwards.
+//! they mean, and the card's tally and listing afterwards. A return also shows
+//! what it did to the count, and the running total of that.
 
 mod course;
 mod screen;
 
-use cavernlull::{Card, Error, Handle, Reply, Request, Rotation, Status};
-use cavernlull::{REPLY_ROOM, SLOT_BYTES};
+use cavernlull::{Card, Handle, Kind, Reply, Request, Rotation, Status};
+use cavernlull::{TotallingError, Totals, REPLY_ROOM, SLOT_BYTES};
 use course::Step;
 use screen::Screen;
 use std::io::{self, IsTerminal, Write};
@@ -25,24 +26,31 @@ fn main() -> io::Result<()> {
 }
 
 /// The whole walk as text.
-fn walk(screen: &Screen) -> Result<String, Error> {
-    let (mut card, mut rotation) = (Card::blank(SLOTS), Rotation::new());
+fn walk(screen: &Screen) -> Result<String, TotallingError> {
+    let (mut card, mut keeping) = (Card::blank(SLOTS), Keeping::default());
     let mut text = screen.title(&format!("One course on a card of {SLOTS} slots"));
     text += &screen.card(&card);
     for (index, step) in course::steps().iter().enumerate() {
         text += &screen.heading(index + 1, step.title);
-        text += &shown(screen, &mut card, &mut rotation, step)?;
+        text += &shown(screen, &mut card, &mut keeping, step)?;
     }
     Ok(text)
+}
+
+/// What the order desk keeps beside a card.
+#[derive(Default)]
+struct Keeping {
+    rotation: Rotation,
+    totals: Totals,
 }
 
 /// One step: the request, the reply, and what is on the card then.
 fn shown(
     screen: &Screen,
     card: &mut Card,
-    rotation: &mut Rotation,
+    Keeping { rotation, totals }: &mut Keeping,
     step: &Step,
-) -> Result<String, Error> {
+) -> Result<String, TotallingError> {
     let mut text = String::new();
     let frame = match (step.request.to_frame(), &step.bytes) {
         (Err(refused), Some(bytes)) => {
@@ -57,10 +65,13 @@ fn shown(
         text += &salvaged(screen, card, &frame);
     }
     let mut buffer = [0; REPLY_ROOM];
-    let answer = rotation.call_frame(card, &frame, &mut buffer)?;
-    let reply = Reply::read(answer)?;
+    let totalled = rotation.call_frame_totalling(totals, card, &frame, &mut buffer)?;
+    let (answer, reply) = (totalled.reply, Reply::read(totalled.reply)?);
     assert_eq!(reply.status(), step.expected, "{}", step.title);
     text += &screen.reply(answer, &answered(&reply), reply.status() == Status::Success);
+    if reply == Reply::Done(Kind::RightsEnablement) {
+        text += &screen.change(totalled.change, totalled.counted, totals);
+    }
     text += &screen.note(step.why);
     text += &screen.card(card);
     Ok(text)
@@ -183,6 +194,22 @@ mod tests {
         let reply = text.split("and a count of 0\n").nth(1);
         let reply = reply.expect("one reply has it").trim_start();
         assert!(reply.starts_with("23 80 "), "{reply}");
+    }
+
+    /// Each return shows its change and the running total; one that is sent again
+    /// is not counted again.
+    #[test]
+    fn returns_show_what_they_did_to_the_count() {
+        let text = walk(&Screen::new(false)).expect("it walks");
+        let shown = text
+            .lines()
+            .filter_map(|line| line.strip_prefix("  change   "));
+        let expected = [
+            "-1; total -1 in 1 return",
+            "0, not counted; total -1 in 1 return",
+            "-1; total -2 in 2 returns",
+        ];
+        assert_eq!(shown.collect::<Vec<_>>(), expected);
     }
 
     /// An installation without a hash is refused by the writer, which says why,

@@ -1,7 +1,7 @@
 //! What is shown: hex with its meaning beside it, tallies and listings. Colour is
 //! for terminals alone.
 
-use cavernlull::{Card, Report, Tally};
+use cavernlull::{Card, Report, Tally, Totals};
 use std::fmt::Display;
 
 /// How many bytes of a frame are shown on one line.
@@ -68,6 +68,14 @@ impl Screen {
     pub fn reply(&self, bytes: &[u8], meaning: &str, success: bool) -> String {
         let colour = if success { "32" } else { "31" };
         self.frame("reply  ", bytes, &self.paint(colour, meaning))
+    }
+
+    /// What a return did to the count, and the totals with it.
+    pub fn change(&self, change: i32, counted: bool, totals: &Totals) -> String {
+        let sign = if change > 0 { "+" } else { "" };
+        let not = if counted { "" } else { ", not counted" };
+        let meaning = format!("{sign}{change}{not}; {totals}");
+        format!("  change   {}\n", self.paint("1", &meaning))
     }
 
     /// A sentence.

@@ -2,7 +2,7 @@
 //! tests and demonstrations. One driver serves the whole program, one command
 //! at a time, and ends with it.
 
-use super::{Fields, Numbers};
+use super::{Fields, Numbers, Sums};
 use crate::{Tally, KEY_BYTES, LISTING_ROOM};
 use driver::{Answers, Commands, Driver};
 use std::io::Result;
@@ -64,6 +64,38 @@ pub(crate) fn call(
     *tally = tally_of(given.tally);
     reply.copy_from_slice(&given.reply);
     given.number
+}
+
+/// `cavernlull_call_totalling`.
+pub(crate) fn call_totalling(
+    table: &mut [u8],
+    tally: &mut Tally,
+    start: usize,
+    frame: &[u8],
+    reply: &mut [u8],
+    sums: &mut Sums,
+) -> u16 {
+    let totals = driver::Totals {
+        total: sums.total,
+        returns: sums.returns,
+        change: sums.change,
+    };
+    let driver::Totalled { call, totals } = ask(
+        |commands| {
+            commands.table(table)?;
+            commands.call_totalling(&numbers(tally), start as u64, frame, reply, &totals)
+        },
+        Answers::totalled,
+    );
+    table.copy_from_slice(&call.table);
+    *tally = tally_of(call.tally);
+    reply.copy_from_slice(&call.reply);
+    *sums = Sums {
+        total: totals.total,
+        returns: totals.returns,
+        change: totals.change,
+    };
+    call.number
 }
 
 /// `cavernlull_tally`.

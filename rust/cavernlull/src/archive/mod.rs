@@ -4,17 +4,27 @@
 #[cfg(target_arch = "x86_64")]
 mod sys;
 #[cfg(target_arch = "x86_64")]
-pub(crate) use sys::{call, list, read_reply, salvage, tally, turn, write_request};
+pub(crate) use sys::{call, call_totalling, list, read_reply, salvage, tally, turn, write_request};
 
 #[cfg(not(target_arch = "x86_64"))]
 mod driven;
 #[cfg(not(target_arch = "x86_64"))]
-pub(crate) use driven::{call, list, read_reply, salvage, tally, turn, write_request};
+pub(crate) use driven::{
+    call, call_totalling, list, read_reply, salvage, tally, turn, write_request,
+};
 
 use crate::{HANDLE_BYTES, KEY_BYTES};
 
 /// The numbers that the reply reader writes.
 pub(crate) type Numbers = [u16; 11];
+
+/// The three numbers that the totalling call keeps.
+#[derive(Clone, Copy, Debug, PartialEq, Eq)]
+pub(crate) struct Sums {
+    pub total: i32,
+    pub returns: u16,
+    pub change: i32,
+}
 
 /// The fields of a request of any kind. Those that the kind lacks are zero or
 /// empty.

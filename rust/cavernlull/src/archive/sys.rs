@@ -8,7 +8,7 @@
 
 #![allow(unsafe_code)]
 
-use super::{Fields, Numbers};
+use super::{Fields, Numbers, Sums};
 use crate::{Tally, KEY_BYTES, LISTING_ROOM};
 
 extern "C" {
@@ -21,6 +21,20 @@ extern "C" {
         frame_length: usize,
         reply: *mut u8,
         reply_length: usize,
+    ) -> u16;
+
+    fn cavernlull_call_totalling(
+        table: *mut u8,
+        table_length: usize,
+        tally: *mut Tally,
+        start: usize,
+        frame: *const u8,
+        frame_length: usize,
+        reply: *mut u8,
+        reply_length: usize,
+        total: *mut i32,
+        returns: *mut u16,
+        change: *mut i32,
     ) -> u16;
 
     fn cavernlull_write_request(
@@ -83,6 +97,35 @@ pub(crate) fn call(
             frame.len(),
             reply.as_mut_ptr(),
             reply.len(),
+        )
+    }
+}
+
+/// `cavernlull_call_totalling`.
+pub(crate) fn call_totalling(
+    table: &mut [u8],
+    tally: &mut Tally,
+    start: usize,
+    frame: &[u8],
+    reply: &mut [u8],
+    sums: &mut Sums,
+) -> u16 {
+    // SAFETY: as for `cavernlull_call`; the three numbers are fields of one
+    // structure that is borrowed to be changed, so they overlap neither one
+    // another nor anything else, and any numbers in them will do.
+    unsafe {
+        cavernlull_call_totalling(
+            table.as_mut_ptr(),
+            table.len(),
+            tally,
+            start,
+            frame.as_ptr(),
+            frame.len(),
+            reply.as_mut_ptr(),
+            reply.len(),
+            &mut sums.total,
+            &mut sums.returns,
+            &mut sums.change,
         )
     }
 }
