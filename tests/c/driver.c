@@ -7,6 +7,9 @@
  *   t        string table                                        none: the table that is lent from here on
  *   c        start, strings tally (10 bytes), frame, reply       number, strings tally, reply and table, as cavernlull_call
  *                                                                left them
+ *   o        start, strings tally (10 bytes), frame, reply,      number, strings tally, reply, table, total, returns and
+ *            total (4 bytes), returns (2 bytes), change          change, as cavernlull_call_totalling left them
+ *            (4 bytes)
  *   a        string tally (10 bytes)                             number, string tally, as cavernlull_tally left it
  *   w        numbers kind, room, count, kept, limit; strings     number, string out, as cavernlull_write_request left it
  *            handle, new handle, key, hashes, payload, out
@@ -17,8 +20,9 @@
  *   s        string report                                       number, strings report and table, as cavernlull_salvage
  *                                                                left them
  *
- * Every string is lent so that it ends where memory ends: an access to the byte after it is a fault. A tally, and the fields of
- * a reply, are 16-bit numbers, the low byte first; their lengths are even, so they are aligned where they end.
+ * Every string is lent so that it ends where memory ends: an access to the byte after it is a fault. A tally, the fields of
+ * a reply and the returns are 16-bit numbers, the low byte first; their lengths are even, so they are aligned where they end. So
+ * are total and change, which are signed numbers of 32 bits, the low byte first.
  * It ends with status 0 at the end of the input, and with 2 where the input is not a command or is too long.
  *
  * It is freestanding, so that the compiler and the linker are all that building it needs.
@@ -181,6 +185,25 @@ static void call(void) {
     give_string(table);
 }
 
+static void call_totalling(void) {
+    size_t start = take_start();
+    struct lent tally = take_tally(&areas[0]);
+    struct lent frame = take_string(&areas[1]);
+    struct lent reply = take_string(&areas[2]);
+    struct lent total = take_array(&areas[3], sizeof(int32_t));
+    struct lent returns = take_array(&areas[4], sizeof(uint16_t));
+    struct lent change = take_array(&areas[5], sizeof(int32_t));
+    give_number(cavernlull_call_totalling(table.at, table.length, tally_in(tally), start, frame.at, frame.length, reply.at,
+                                          reply.length, (int32_t *)(void *)total.at, (uint16_t *)(void *)returns.at,
+                                          (int32_t *)(void *)change.at));
+    give_string(tally);
+    give_string(reply);
+    give_string(table);
+    give_string(total);
+    give_string(returns);
+    give_string(change);
+}
+
 static void work_out(void) {
     struct lent tally = take_tally(&areas[0]);
     give_number(cavernlull_tally(table.at, table.length, tally_in(tally)));
@@ -237,6 +260,7 @@ static _Noreturn __attribute__((used)) void run(void) {
         switch (input[taken++]) {
         case 't': table = take_string(&table_area); break;
         case 'c': call(); break;
+        case 'o': call_totalling(); break;
         case 'a': work_out(); break;
         case 'w': write_request(); break;
         case 'r': read_reply(); break;

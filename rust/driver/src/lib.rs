@@ -52,6 +52,18 @@ pub type Tally = [u16; 5];
 /// What the numbers of a tally count.
 pub const TALLY_WORDS: [&str; 5] = ["empty", "reserved", "enabled", "disabled", "payload"];
 
+/// The three numbers that the totalling call keeps (PROFILE 4.5).
+#[derive(Clone, Copy, Debug, Default, PartialEq, Eq)]
+pub struct Totals {
+    /// The sum of the changes.
+    pub total: i32,
+    /// How many counted returns are in the total.
+    pub returns: u16,
+    /// The change of the call. What it holds before makes no difference to the
+    /// call; one that gives 108 leaves it.
+    pub change: i32,
+}
+
 /// A running driver.
 pub struct Driver {
     /// Where commands go in.
@@ -131,6 +143,30 @@ impl Commands {
         self.numbers(tally)?;
         self.string(frame)?;
         self.string(reply)
+    }
+
+    /// Has `cavernlull_call_totalling` called with what a call takes and these
+    /// three numbers; the answer is a [`Totalled`].
+    ///
+    /// # Errors
+    ///
+    /// Where the driver has ended.
+    pub fn call_totalling(
+        &mut self,
+        tally: &Tally,
+        start: u64,
+        frame: &[u8],
+        reply: &[u8],
+        totals: &Totals,
+    ) -> Result<()> {
+        self.0.write_all(b"o")?;
+        self.0.write_all(&start.to_le_bytes())?;
+        self.numbers(tally)?;
+        self.string(frame)?;
+        self.string(reply)?;
+        self.string(&totals.total.to_le_bytes())?;
+        self.string(&totals.returns.to_le_bytes())?;
+        self.string(&totals.change.to_le_bytes())
     }
 
     /// Has `cavernlull_tally` called on the table, with a tally that holds these
@@ -253,6 +289,30 @@ impl Call {
         same_bytes("the reply buffer", &self.reply, &expected.reply)?;
         same_bytes("the table", &self.table, &expected.table)?;
         same_tally(&self.tally, &expected.tally)
+    }
+}
+
+/// What a call of `cavernlull_call_totalling` gave, and what it left.
+#[derive(Debug, PartialEq, Eq)]
+pub struct Totalled {
+    /// The number, and what a call leaves.
+    pub call: Call,
+    /// The three numbers.
+    pub totals: Totals,
+}
+
+impl Totalled {
+    /// Whether this is exactly the totalling call expected.
+    ///
+    /// # Errors
+    ///
+    /// A sentence that names the first thing that differs.
+    pub fn same_as(&self, expected: &Totalled) -> Same {
+        self.call.same_as(&expected.call)?;
+        let (given, wanted) = (self.totals, expected.totals);
+        same_total("the total", given.total, wanted.total)?;
+        same_total("returns", given.returns.into(), wanted.returns.into())?;
+        same_total("the change", given.change, wanted.change)
     }
 }
 
@@ -408,6 +468,14 @@ fn same_number(given: u16, wanted: u16) -> Same {
     Ok(())
 }
 
+/// Whether one of the three numbers of a totalling call is as expected.
+fn same_total(what: &str, given: i32, wanted: i32) -> Same {
+    if given != wanted {
+        return Err(format!("{what} is {given} where {wanted} was expected"));
+    }
+    Ok(())
+}
+
 /// Whether each number of a tally is as expected, and if not, which is the first
 /// that is another.
 fn same_tally(given: &Tally, expected: &Tally) -> Same {
@@ -457,6 +525,22 @@ impl Answers {
         }
     }
 
+    /// The next answer to a totalling call.
+    ///
+    /// # Panics
+    ///
+    /// Where the driver ends before it has answered, by a fault for example.
+    pub fn totalled(&mut self) -> Totalled {
+        Totalled {
+            call: self.call(),
+            totals: Totals {
+                total: i32::from_le_bytes(self.array()),
+                returns: u16::from_le_bytes(self.array()),
+                change: i32::from_le_bytes(self.array()),
+            },
+        }
+    }
+
     /// The next answer to a tally worked out.
     ///
     /// # Panics
@@ -489,7 +573,7 @@ impl Answers {
     pub fn read(&mut self) -> Read {
         Read {
             number: self.number(),
-            key: self.string().try_into().expect("a key"),
+            key: self.array(),
             numbers: self.numbers(),
         }
     }
@@ -546,6 +630,14 @@ impl Answers {
             *number = u16::from_le_bytes([pair[0], pair[1]]);
         }
         numbers
+    }
+
+    /// A string of as many bytes as are asked for.
+    fn array<const N: usize>(&mut self) -> [u8; N] {
+        let bytes = self.string();
+        bytes
+            .try_into()
+            .unwrap_or_else(|bytes: Vec<u8>| panic!("{} bytes, and not {N}", bytes.len()))
     }
 
     fn string(&mut self) -> Vec<u8> {
