@@ -1,8 +1,30 @@
 //! Commands about the table that is lent to the driver, each given to the driver and
 //! carried out by the reference.
 
-use driver::{Commands, Salvaged, Tallied, Tally, Turned};
+use crate::card::Handed;
+use driver::{Call, Commands, Salvaged, Tallied, Tally, Turned};
 use std::io::Result;
+
+/// Has the driver make a call on its table, which is this one, with this reply buffer,
+/// and gives what the reference makes of it.
+///
+/// # Errors
+///
+/// Where the driver has ended.
+pub fn call(commands: &mut Commands, handed: &Handed, table: &[u8], reply: &[u8]) -> Result<Call> {
+    let (start, frame) = (handed.start, &handed.frame);
+    commands.call(&handed.tally, start, frame, reply)?;
+    let (mut table, mut reply) = (table.to_vec(), reply.to_vec());
+    let mut tally = handed.tally.into();
+    let number = reference::call(&mut table, &mut tally, start, frame, &mut reply);
+    let tally = tally.numbers();
+    Ok(Call {
+        number,
+        tally,
+        reply,
+        table,
+    })
+}
 
 /// Has the driver turn its table, which is this one, and gives what the reference
 /// makes of it.

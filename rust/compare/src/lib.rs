@@ -14,6 +14,7 @@
 //! | [`damage`] | tables damaged in every way that a salvage is for |
 //! | [`pipeline`] | many commands on their way at once |
 //! | [`alongside`] | commands about a table, and what the reference makes of them |
+//! | [`card`] | cards, and the histories that they go through |
 //! | [`calls`] | many calls, made at random and checked |
 //! | [`mended`] | cards that were salvaged or turned before their first call |
 //! | [`device`] | requests written and replies read, at random |
@@ -36,6 +37,7 @@
 pub mod alongside;
 pub mod both;
 pub mod calls;
+pub mod card;
 pub mod damage;
 pub mod device;
 pub mod found;

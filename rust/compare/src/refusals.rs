@@ -1,7 +1,7 @@
 //! Calls that gave a number: what else was wrong with them, and what was asked
 //! where start or tally were wrong.
 
-use crate::calls::Handed;
+use crate::card::Handed;
 use crate::tallies::counted;
 use driver::Call;
 use reference::number::{DONE, NO_FRAME, REPLY_BUFFER_SHORT, START_OUTSIDE};
