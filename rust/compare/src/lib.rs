@@ -3,7 +3,7 @@
 //! The archive is called by a small C program, the [`driver`]. The tests make
 //! calls at random, give each to the archive and to the reference, and compare
 //! number, reply buffer, table, tally, and the table's listing; and likewise the
-//! tally worked out from the table afresh.
+//! tally worked out from the table afresh, and the total of what returns did to counts.
 //!
 //! | | |
 //! |---|---|
@@ -18,6 +18,9 @@
 //! | [`calls`] | many calls, made at random and checked |
 //! | [`mended`] | cards that were salvaged or turned before their first call |
 //! | [`device`] | requests written and replies read, at random |
+//! | [`totals`] | totals at random, right and wrong ones |
+//! | [`returns`] | frames by which the rights of a table are lent and returned |
+//! | [`totalled`] | what came of totalling calls, and what must have come |
 //! | [`turning`] | tables from before a count had its bit, turned at random |
 //! | [`salvage`] | damaged tables, salvaged at random |
 //! | [`salvage_rules`] | what holds of every salvage |
@@ -47,10 +50,13 @@ pub mod outcome;
 pub mod pair;
 pub mod pipeline;
 pub mod refusals;
+pub mod returns;
 pub mod salvage;
 pub mod salvage_rules;
 pub mod starts;
 pub mod steps;
 pub mod tables;
 pub mod tallies;
+pub mod totalled;
+pub mod totals;
 pub mod turning;
