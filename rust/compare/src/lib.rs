@@ -20,6 +20,10 @@
 //! | [`device`] | requests written and replies read, at random |
 //! | [`totals`] | totals at random, right and wrong ones |
 //! | [`returns`] | frames by which the rights of a table are lent and returned |
+//! | [`totalling`] | totalling calls, made at random and checked |
+//! | [`to_the_end`] | totals that are carried on until no return has room |
+//! | [`total_rules`] | what holds of every totalling call |
+//! | [`told`] | what ledgers tell of totals |
 //! | [`totalled`] | what came of totalling calls, and what must have come |
 //! | [`turning`] | tables from before a count had its bit, turned at random |
 //! | [`salvage`] | damaged tables, salvaged at random |
@@ -57,6 +61,10 @@ pub mod starts;
 pub mod steps;
 pub mod tables;
 pub mod tallies;
+pub mod to_the_end;
+pub mod told;
+pub mod total_rules;
 pub mod totalled;
+pub mod totalling;
 pub mod totals;
 pub mod turning;
