@@ -1,9 +1,10 @@
-//! One call after another, turnings, salvages, and tallies worked out, by the
-//! archive and by the reference.
+//! One call after another, totalling ones too, turnings, salvages, and tallies worked
+//! out, by the archive and by the reference.
 
 use crate::alongside;
 use crate::tallies::tally_of;
-use driver::{Call, Driver, Salvaged, Tallied, Tally, Turned};
+use crate::totalled::Lent;
+use driver::{Call, Driver, Salvaged, Tallied, Tally, Totalled, Turned};
 use reference::number::DONE;
 
 /// A table lent to the archive, and an equal one lent to the reference, with its
@@ -87,6 +88,29 @@ impl Both {
             let length = frame.len();
             panic!("with {tally:?}, from {start}, a frame of {length} bytes: {difference}");
         }
+        given
+    }
+
+    /// Makes a totalling call. Its table and its tally are those that are lent, and the
+    /// next call goes on with what it leaves.
+    ///
+    /// # Panics
+    ///
+    /// Where the archive and the reference differ.
+    pub fn call_totalling(&mut self, lent: &Lent) -> Totalled {
+        self.table.clone_from(&lent.table);
+        self.lend();
+        let commands = &mut self.driver.commands;
+        let expected = alongside::call_totalling(commands, lent)
+            .and_then(|expected| commands.send().map(|()| expected))
+            .expect("the driver takes the call");
+        let given = self.driver.answers.totalled();
+        if let Err(difference) = given.same_as(&expected) {
+            let (totals, frame) = (lent.totals, &lent.handed.frame);
+            panic!("with {totals:?} and {frame:02x?}: {difference}");
+        }
+        self.tally = expected.call.tally;
+        self.table = expected.call.table;
         given
     }
 

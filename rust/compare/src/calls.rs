@@ -5,6 +5,7 @@
 //! what a reply that gives a right reads as.
 
 use crate::alongside;
+use crate::card::{histories, Card, Handed, History};
 use crate::device;
 use crate::frames::Asker;
 use crate::mended::{Began, Mended};
@@ -14,117 +15,15 @@ use crate::pipeline::{self, Giver};
 use crate::refusals::{Precedence, Regardless};
 use crate::starts::start;
 use crate::steps::{left_right, Difference, Step};
-use crate::tables::{blank, damaged, listing_buffer, reply_buffer, with_unhashed};
-use crate::tallies::{any, tally_of, wrong};
-use driver::{Answers, Call, Listed, Numbers, Read, Same, Tallied, Tally};
+use crate::tables::{listing_buffer, reply_buffer};
+use crate::tallies::any;
+use driver::{Answers, Call, Listed, Numbers, Read, Same, Tallied};
 use random::Rng;
 use reference::ledger::{agrees, Ledger, Standing};
 use reference::number::{DONE, TABLE_NOT_WELL_FORMED, TALLY_DIFFERS};
 use reference::{read_request, Kind, ReadRequest, Request, MAX_SLOTS, SLOT_BYTES};
 use std::collections::BTreeMap;
 use std::io::Result;
-
-/// How many calls there are in one sequence that starts from a blank table.
-const SEQUENCE: usize = 160;
-
-/// How many there are in one on a card that holds rights already, some of them
-/// without a hash. No request brings these back once they are removed.
-const FILLED_SEQUENCE: usize = 50;
-
-/// How many there are in one on a card that was salvaged or turned.
-const MENDED_SEQUENCE: usize = 25;
-
-/// Where a call stands in the history of a table.
-#[derive(Clone, Copy, Debug, PartialEq, Eq)]
-enum History {
-    /// The first call, on a table that no history tells of.
-    Begins(Began),
-    /// The next call on the same table.
-    GoesOn,
-    /// A call on another table, which belongs to no history.
-    Apart,
-}
-
-impl History {
-    /// One call in how many has a start that is not the number of a slot.
-    fn outside_in(self) -> usize {
-        match self {
-            History::Apart => 3,
-            _ => 12,
-        }
-    }
-
-    /// One call in how many has a tally that is not that of its table.
-    fn wrong_in(self) -> usize {
-        match self {
-            History::Apart => 3,
-            _ => 20,
-        }
-    }
-}
-
-/// A table with a tally beside it, which is its own unless the table is damaged.
-struct Card {
-    table: Vec<u8>,
-    tally: Tally,
-    /// What the history of the card begins with.
-    began: Began,
-    /// What was made of the table, before the first call on it.
-    mended: Option<Mended>,
-}
-
-impl Card {
-    /// A card with this table and its tally.
-    fn with(table: Vec<u8>, began: Began) -> Card {
-        Card {
-            tally: tally_of(&table),
-            table,
-            began,
-            mended: None,
-        }
-    }
-
-    /// A card with the table left and its tally.
-    fn mended(mended: Mended) -> Card {
-        let mut card = Card::with(mended.table().to_vec(), mended.began());
-        card.mended = Some(mended);
-        card
-    }
-
-    /// A card with a damaged table. Its tally is the one from before the damage,
-    /// or the one that places and lengths now have.
-    fn damaged(&self, rng: &mut Rng) -> Card {
-        let table = damaged(rng, &self.table);
-        let tally = match rng.below(2) {
-            0 => self.tally,
-            _ => tally_of(&table),
-        };
-        Card {
-            tally,
-            ..Card::with(table, self.began)
-        }
-    }
-
-    /// The tally that is lent with the next call; one in `wrong_in` is not that
-    /// of the table.
-    fn lend(&self, rng: &mut Rng, wrong_in: usize) -> Tally {
-        match rng.one_in(wrong_in) {
-            true => wrong(rng, &self.table),
-            false => self.tally,
-        }
-    }
-}
-
-/// What a caller hands over with a call, beside table and reply buffer
-/// (PROFILE 1.1).
-pub struct Handed {
-    /// The tally, as it is lent.
-    pub tally: Tally,
-    /// The start.
-    pub start: u64,
-    /// The frame.
-    pub frame: Vec<u8>,
-}
 
 /// What comes of a call: what was made of its table before, if it is the first on a
 /// mended one, what it gives and leaves, what its reply reads as where it gives a
@@ -267,7 +166,7 @@ pub fn compare(mut rng: Rng, calls: u64) -> Seen {
             let mut made = 0;
             while made < calls {
                 for slots in 1..=MAX_SLOTS {
-                    made += sequences(giver, &mut rng, slots)?;
+                    made += histories(giver, &mut rng, slots, sequence)?;
                 }
             }
             Ok(())
@@ -278,29 +177,6 @@ pub fn compare(mut rng: Rng, calls: u64) -> Seen {
         },
     );
     checker.seen
-}
-
-/// Makes a sequence of calls that starts from a blank table, and goes on when it was
-/// damaged and salvaged; and one on a card that holds rights without a hash, which
-/// goes on when it was turned. Gives how many calls it made.
-fn sequences(giver: &mut Giver<Expected>, rng: &mut Rng, slots: usize) -> Result<u64> {
-    let asker = &Asker::new(slots);
-    let mut card = Card::with(blank(slots), Began::Blank);
-    giver.commands.table(&card.table)?;
-    let mut made = sequence(giver, rng, asker, &mut card, SEQUENCE)?;
-
-    let salvaged = Mended::salvaged(&mut giver.commands, rng, card.table)?;
-    card = Card::mended(salvaged);
-    made += sequence(giver, rng, asker, &mut card, MENDED_SEQUENCE)?;
-
-    card = Card::with(with_unhashed(rng, asker, slots), Began::Filled);
-    giver.commands.table(&card.table)?;
-    made += sequence(giver, rng, asker, &mut card, FILLED_SEQUENCE)?;
-
-    let turned = Mended::turned(&mut giver.commands, &card.table)?;
-    card = Card::mended(turned);
-    made += sequence(giver, rng, asker, &mut card, MENDED_SEQUENCE)?;
-    Ok(made)
 }
 
 /// Makes so many calls on a card whose table the driver has, with a history that
@@ -347,10 +223,9 @@ fn call(
     };
     let carried_on = history != History::Apart && handed.tally == card.tally;
     let before = card.table.clone();
-    let call = call_both(giver, rng, &handed, &mut card.table)?;
-    if call.number == DONE {
-        card.tally = call.tally;
-    }
+    let reply = reply_buffer(rng);
+    let call = alongside::call(&mut giver.commands, &handed, &before, &reply)?;
+    card.left(&call);
     let answer = Answer {
         mended: card.mended.take(),
         read_back: read_back_both(giver, rng, &call)?,
@@ -364,30 +239,6 @@ fn call(
         before,
         carried_on,
         answer,
-    })
-}
-
-/// Hands a call to the driver, and gives what the reference makes of it.
-fn call_both(
-    giver: &mut Giver<Expected>,
-    rng: &mut Rng,
-    handed: &Handed,
-    table: &mut [u8],
-) -> Result<Call> {
-    let Handed {
-        tally,
-        start,
-        frame,
-    } = handed;
-    let mut reply = reply_buffer(rng);
-    giver.commands.call(tally, *start, frame, &reply)?;
-    let mut tally = (*tally).into();
-    let number = reference::call(table, &mut tally, *start, frame, &mut reply);
-    Ok(Call {
-        number,
-        tally: tally.numbers(),
-        reply,
-        table: table.to_vec(),
     })
 }
 

@@ -1,7 +1,7 @@
 //! Calls that gave a number: what else was wrong with them, and what was asked
 //! where start or tally were wrong.
 
-use crate::calls::Handed;
+use crate::card::Handed;
 use crate::tallies::counted;
 use driver::Call;
 use reference::number::{DONE, NO_FRAME, REPLY_BUFFER_SHORT, START_OUTSIDE};
@@ -73,7 +73,7 @@ impl fmt::Display for Precedence {
 /// The numbers that a refused call has a reason for, in the order of their tests
 /// (PROFILE 4.1). The call has left its table as it was. The tally of whole slots
 /// that are not well formed is taken to be that of their places and lengths.
-fn reasons(handed: &Handed, call: &Call) -> Vec<u16> {
+pub fn reasons(handed: &Handed, call: &Call) -> Vec<u16> {
     let checked = table::check(&call.table);
     let whole = checked != Err(TABLE_LENGTH);
     let slots = call.table.len() / SLOT_BYTES;

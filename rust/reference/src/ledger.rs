@@ -133,6 +133,28 @@ impl Ledger {
         }
     }
 
+    /// What an exchange that is still to be told does to a count (PROFILE 8.7): of a
+    /// return, where both keep a count, the one sent minus the one that the lent
+    /// right has by this ledger. `None` for what is no counted return.
+    ///
+    /// It looks at no table, and at nothing that the totalling call looks at but
+    /// request and status.
+    pub fn change_told(&self, request: &Request<'_>, status: u8) -> Option<i32> {
+        if (request.kind, status) != (Kind::RightsEnablement, 0) {
+            return None;
+        }
+        let handle = request.fields.handle;
+        let mut lent = self.rights.iter().filter(|r| r.standing == Standing::Lent);
+        let right = lent.find(|right| right.handle == handle)?;
+        let (Count::Kept(had), Count::Kept(has)) = (right.count, request.fields.count) else {
+            return None;
+        };
+        Some(match has.checked_sub(had) {
+            Some(more) => i32::from(more),
+            None => -i32::from(had - has),
+        })
+    }
+
     /// Kind 1 opens a setup of the length asked for.
     fn open_setup(&mut self, fields: &Fields<'_>) {
         self.setups.push(Setup {

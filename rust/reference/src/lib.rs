@@ -10,6 +10,7 @@
 //! | item | what it is | PROFILE |
 //! |---|---|---|
 //! | [`call`] | the card agent: a lent table and its tally, a start, a frame, a lent reply buffer | 1.1, 4, 5 |
+//! | [`call_totalling`], [`Totals`] | the same, with a total of what returns did to counts | 4.4, 4.5 |
 //! | [`write_request`] | the device's request writer | 6.2 |
 //! | [`read_request`] | the request reader, which the card uses too | 6.1 |
 //! | [`read_reply`] | the device's reply reader | 6.3 |
@@ -77,6 +78,7 @@ pub mod slot;
 mod status;
 pub mod table;
 mod tally;
+mod total;
 mod turning;
 
 pub use agent::{call, REPLY_ROOM};
@@ -91,6 +93,7 @@ pub use slot::{Place, SLOT_BYTES};
 pub use status::Status;
 pub use table::{well_formed, MAX_SLOTS};
 pub use tally::{tally, Tally};
+pub use total::{call_totalling, Totals, MOST_CHANGE, MOST_RETURNS};
 pub use turning::turn;
 
 /// A handle: any ten bytes, zeros included (PROFILE 2.6).

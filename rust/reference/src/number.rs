@@ -26,6 +26,10 @@ pub const TALLY_DIFFERS: u16 = 106;
 /// The report buffer has fewer bytes than the table has slots (PROFILE 2.10).
 pub const REPORT_BUFFER_SHORT: u16 = 107;
 
+/// Total and returns cannot be, or there is no room for one more return
+/// (PROFILE 4.5).
+pub const TOTAL_OUTSIDE: u16 = 108;
+
 /// The writer's buffer is shorter than the frame (PROFILE 6.2).
 pub const WRITER_BUFFER_SHORT: u16 = 201;
 
