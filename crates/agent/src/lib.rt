@@ -195,11 +195,11 @@ pub fn call_and_tell(
         };
     }
     let answered = answer(table, start, frame, reply);
-    let change = answered.change;
-    let after = tallies::update::updated(tally, change);
+    let told = answered.change;
+    let afterwards = tallies::update::updated(tally, told);
     Called {
         number: answered.number,
-        tally: after,
-        change: change,
+        tally: afterwards,
+        change: told,
     }
 }

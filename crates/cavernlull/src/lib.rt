@@ -61,9 +61,18 @@ pub extern "C" fn cavernlull_call_totalling(
 ) -> u16
     ensures { λ r. ⌜ totalled (outcome r (now (reply .exit)) (now (table .exit)) (now (tally .exit))) (now (total .exit)) (now (returns .exit)) (now (change .exit)) ≡ totalling (now (table .entry)) (callOf (now (tally .entry)) start (now (frame .entry)) (now (reply .entry))) (totalsWith (now (total .entry)) (now (returns .entry))) (now (change .entry)) ⌝ }
 {
-    let done = totals::call_totalling(table, *tally, start, frame, reply, total, returns, change);
-    *tally = done.tally;
-    done.number
+    let totalled = totals::call_totalling(
+        table,
+        *tally,
+        start,
+        frame,
+        reply,
+        total,
+        returns,
+        change,
+    );
+    *tally = totalled.tally;
+    totalled.number
 }
 
 // Works out the tally of a table (PROFILE 2.8), whatever numbers `tally` has. With 102 and 103 nothing is changed.

@@ -17,10 +17,10 @@ fn both(stored: Count, sent: Count) -> Counts
     ensures { λ r. ⌜ r ≡ countsOf (returned stored sent) ⌝ }
 {
     let Count::Kept(was) = stored else {
-        return Counts::NotBoth;
+        return Counts::NotBoth; // the record keeps none
     };
     let Count::Kept(is) = sent else {
-        return Counts::NotBoth;
+        return Counts::NotBoth; // the request keeps none
     };
     Counts::Both(was, is)
 }
