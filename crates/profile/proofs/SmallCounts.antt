@@ -1,13 +1,13 @@
 -- Every count on a table of bytes has 16 bits, and so has every count that a frame of bytes sends; a call leaves it so.
-use Prim.Native.Nat.{ℕ, zero, suc, _+_, _*_, _≤_, _<_}
-use mathlib.Core.Path.{_≡_, refl, sym, ap, _∙_}
+use Prim.Native.Nat.{ℕ, zero, suc, _+_, _≤_}
+use mathlib.Core.Path.{_≡_, ap, _∙_}
 use mathlib.Core.Logic.{_⊎_, inl, inr}
 use mathlib.Core.List.{List, [], _∷_, map}
-use mathlib.Core.Option.{Option, none, some, Option·some-injective}
+use mathlib.Core.Option.{some, Option·some-injective}
 use native.Mathlib.Omega.{arith}
 use lib.ListN.{getD, getElem?, set, take, drop}
 use Rattle.profile.specs.Bytes.{Bytes, Bytes256, word, pieces}
-use Rattle.profile.specs.Slot.{Count, NoneKept, Kept, countNumber, countWith, Right, recount, Entry, reserved, enabled, disabled, Slot, empty, taken}
+use Rattle.profile.specs.Slot.{Count, countNumber, countWith, Right, recount, reserved, enabled, disabled, Slot, empty, taken}
 use Rattle.profile.specs.Table.{keptOf, placeOf, handleOf, lengthOf, rightOf, unpack, slotCount, slotBytes, slotsOf}
 use Rattle.profile.specs.Frame.{Kind, Setup, Install, Retrieve, Rek, Enable, Remove, Cancel, List', Info, body}
 use Rattle.profile.specs.Request.{Request, setup, install, retrieve, rek, enable, remove, cancel, list, info, keptAsked, fields}
@@ -16,7 +16,7 @@ use Rattle.profile.specs.Unlisted.{slotRight, HoldsRight}
 use Rattle.profile.proofs.FirstEmpty.{not-there}
 use Rattle.profile.proofs.Strings.{bytes-take, bytes-drop}
 use Rattle.profile.proofs.Frames.{Reads}
-use Rattle.profile.proofs.Steps.{Turns, Stays, LendsOut, Returns, Does}
+use Rattle.profile.proofs.Steps.{Stays, LendsOut, Returns, Does}
 use Rattle.profile.proofs.Unlisted.{set-at, found-at}
 
 abbrev pub Small : Count → Type 0

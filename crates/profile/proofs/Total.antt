@@ -1,28 +1,28 @@
 -- PROFILE 4.4, 4.5 and 8.7, of one call: what it returns, the bounds of change and total, and when 108 is given.
-use Prim.Native.Nat.{ℕ, _+_, _*_, _≤_, _<_}
+use Prim.Native.Nat.{_*_, _≤_, _<_}
 use mathlib.Core.Path.{_≡_, refl, sym, ap, _∙_}
 use mathlib.Core.Logic.{_↔_}
-use mathlib.Core.List.{List, [], _∷_}
-use mathlib.Core.Bool.{Bool, true, false, _&&_, not, true≢false}
+use mathlib.Core.List.{List}
+use mathlib.Core.Bool.{Bool, true, false, not, true≢false}
 use native.Mathlib.Omega.{arith}
 use lib.Dec.{eqb, leb, ltb}
-use lib.IntN.{ℤ, pos, natAbs, _+ℤ_}
+use lib.IntN.{ℤ, natAbs}
 use lib.ListN.{length}
-use Rattle.profile.specs.Bytes.{Bytes, Bytes256, if_then_else_}
-use Rattle.profile.specs.Slot.{Count, NoneKept, Kept, Entry, reserved, enabled, disabled, Slot, taken}
+use Rattle.profile.specs.Bytes.{Bytes, Bytes256}
+use Rattle.profile.specs.Slot.{Count, NoneKept, Kept, reserved, enabled, disabled, Slot, taken}
 use Rattle.profile.specs.Table.{slotCount, slotsOf, wholeSlots, wellTable}
 use Rattle.profile.specs.Tally.{tallyIn, sameTally}
 use Rattle.profile.specs.Frame.{kindNumber, statusIn}
 use Rattle.profile.specs.Request.{Request, setup, install, retrieve, rek, enable, remove, cancel, list, info, Read, asks, refused, noFrame, readRequest}
 use Rattle.profile.specs.Agent.{Found, absent, one, find, firstEmptyFrom, Call, Outcome, refuse, obey, onBytes, agent}
 use Rattle.profile.specs.History.{Exchange}
-use Rattle.profile.specs.Run.{exchange, exchangeOf}
+use Rattle.profile.specs.Run.{exchange}
 use Rattle.profile.specs.Laws.{FoundIs}
 use Rattle.profile.specs.Total.{Return, noReturn, returned, returnFrom, returnBy, returnIn, returnOf, change, counted, changeOf, Totals, totalsHold, withReturn, Totalled, totalling}
 use Rattle.profile.specs.Totals.{Within}
-use Rattle.profile.proofs.Logic.{and-parts, both, if-both, if-else, leb-le, leb-true, ltb-lt, ltb-over, ltb-false}
+use Rattle.profile.proofs.Logic.{and-parts, both, if-both, leb-le, leb-true, ltb-lt, ltb-over, ltb-false}
 use Rattle.profile.proofs.Laws.{found-is}
-use Rattle.profile.proofs.Frames.{ReadAs, Reads, reads}
+use Rattle.profile.proofs.Frames.{ReadAs, reads}
 use Rattle.profile.proofs.Signed.{difference-size, sum-size}
 use Rattle.profile.proofs.SmallCounts.{Small, CountsFit, table-small, RequestSmall, request-small}
 

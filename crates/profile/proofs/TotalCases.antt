@@ -1,5 +1,4 @@
 -- The worked cases of totals hold: computed.
-use Prim.Native.Nat.{ℕ}
 use mathlib.Core.Path.{refl}
 use native.Mathlib.Omega.{arith}
 use Rattle.profile.specs.Bytes.{zeros, over}

@@ -1,5 +1,5 @@
 -- PROFILE 8.7, along a sequence of totalling calls: the ledger tells what each call returns, and so the totals.
-use Prim.Native.Nat.{ℕ, zero, suc, _+_, _*_, _≤_}
+use Prim.Native.Nat.{ℕ, _+_, _*_, _≤_}
 use mathlib.Core.Path.{_≡_, refl, sym, ap, ap₂, _∙_}
 use mathlib.Core.Logic.{_↔_, inl, inr}
 use mathlib.Core.List.{List, [], _∷_, _++_, map}
@@ -7,28 +7,26 @@ use mathlib.Core.Bool.{Bool, true, false}
 use native.Mathlib.Omega.{arith}
 use lib.Dec.{eqb}
 use lib.IntN.{ℤ, pos, _+ℤ_, +ℤ-idl, +ℤ-idr, +ℤ-assoc}
-use lib.ListN.{length}
 use Rattle.profile.specs.Bytes.{Bytes, Bytes256, if_then_else_, same, joined}
 use Rattle.profile.specs.Sizes.{slotSize}
-use Rattle.profile.specs.Slot.{Count, Entry, reserved, enabled, disabled, Slot, TableFits}
-use Rattle.profile.specs.Table.{slotsOf, tableOf, wholeSlots, wellTable}
+use Rattle.profile.specs.Slot.{Count, Entry, reserved, enabled, disabled, Slot}
+use Rattle.profile.specs.Table.{slotsOf, wholeSlots, wellTable}
 use Rattle.profile.specs.Frame.{statusIn}
 use Rattle.profile.specs.Request.{Request, setup, install, retrieve, rek, enable, remove, cancel, list, info, Read, asks, refused, noFrame, readRequest}
 use Rattle.profile.specs.Agent.{Found, absent, one, find, Call, Outcome, refuse, agent}
 use Rattle.profile.specs.History.{Opened, open-setup, Owned, forUse, lent, gone, Ledger, blankLedger, Exchange, told, history}
 use Rattle.profile.specs.Run.{exchange, exchangeOf, exchanges, tableThen, blankTable, ledgerOf, underSetup, underRight, underSlots, underLedger, Agrees}
-use Rattle.profile.specs.Total.{Return, noReturn, returned, returnFrom, returnBy, returnIn, returnOf, change, counted, changeOf, Totals, totalsWith, totalsHold, withReturn, Totalled, totalling}
+use Rattle.profile.specs.Total.{Return, noReturn, returnFrom, returnBy, returnIn, returnOf, change, counted, changeOf, Totals, totalsHold, withReturn, Totalled, totalling}
 use Rattle.profile.specs.Totals.{Within, lentCount, returnOfLent, returnTold, returnsTold, changesOf, countedIn, step, totalsThen, tableTotalled, callsMade, FrameBytes, noTotals, TotalsTold, TotalsFrom}
 use Rattle.profile.proofs.Logic.{if-both, if-two}
 use Rattle.profile.proofs.Strings.{bytes-zeros}
 use Rattle.profile.proofs.Tables.{slots-table}
 use Rattle.profile.proofs.Lookup.{Looked, find-looked}
-use Rattle.profile.proofs.Calls.{Comes, history-append}
+use Rattle.profile.proofs.Calls.{Comes}
 use Rattle.profile.proofs.Fitting.{fitting}
 use Rattle.profile.proofs.Requests.{read-fits}
-use Rattle.profile.proofs.Sound.{Sound, sound-comes, sound-call, sound-blank, sound-well, sound-agrees}
+use Rattle.profile.proofs.Sound.{Sound, sound-comes, sound-call, sound-blank, sound-agrees}
 use Rattle.profile.proofs.AnyTable.{sound-table}
-use Rattle.profile.proofs.Demand3.{blank-ledger}
 use Rattle.profile.proofs.SmallCounts.{CountsFit, table-small, request-small, does-small}
 use Rattle.profile.proofs.Total.{refused-108, called, gives-108, step-within, full-totals}
 

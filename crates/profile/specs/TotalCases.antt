@@ -5,17 +5,17 @@ use mathlib.Core.List.{List, [], _∷_, _++_, map}
 use mathlib.Core.Bool.{true, false}
 use lib.IntN.{ℤ, pos, negℤ}
 use lib.ListN.{take}
-use Rattle.profile.specs.Bytes.{Bytes, zeros}
-use Rattle.profile.specs.Slot.{NoneKept, Kept, Right, rightWith, reserved, enabled, disabled, Slot, empty, taken}
-use Rattle.profile.specs.Tally.{tallyWith, tallyIn}
+use Rattle.profile.specs.Bytes.{Bytes}
+use Rattle.profile.specs.Slot.{NoneKept, Kept, Right, rightWith, reserved, enabled, disabled, empty, taken}
+use Rattle.profile.specs.Tally.{tallyWith}
 use Rattle.profile.specs.Request.{Request, setup, install, retrieve, rek, enable, remove, cancel, list, info}
 use Rattle.profile.specs.Agent.{Call}
 use Rattle.profile.specs.History.{forUse, lent, gone, Ledger, Exchange}
 use Rattle.profile.specs.CaseBytes.{hex, changed, renamed, H0, H1, H2, H3, H4, K, A, five}
 use Rattle.profile.specs.CaseTables.{blank, after1, after7, after9, after11, last1, lent1, usedUp, lent2, hashed2}
 use Rattle.profile.specs.Cases.{Case, buffer, expected, done, gives, refused, stopped, from, keeps, enable as back, enableFree as backFree}
-use Rattle.profile.specs.Total.{Return, noReturn, returned, returnBy, returnIn, change, counted, Totals, totalsWith, totalsHold, withReturn, Totalled, totalling}
-use Rattle.profile.specs.Totals.{Within, returnTold, returnsTold, changesOf, countedIn, totalsThen, tableTotalled, callsMade, FrameBytes, noTotals}
+use Rattle.profile.specs.Total.{Return, noReturn, returned, returnBy, returnIn, change, Totals, totalsWith, totalsHold, Totalled, totalling}
+use Rattle.profile.specs.Totals.{Within, returnsTold, changesOf, countedIn, totalsThen, tableTotalled, callsMade, FrameBytes, noTotals}
 
 -- so much below 0
 abbrev pub below : ℕ → ℤ

@@ -10,26 +10,21 @@ use denote.Enum.Declared.{tagOf}
 use lib.ListN.{set}
 use Rattle.profile.specs.Bytes.{Bytes, Bytes256}
 use Rattle.profile.specs.Slot.{Count, Right, recount, Entry, enabled, disabled, taken, inUse}
-use Rattle.profile.specs.Table.{handleOf, lengthOf, rightOf, slotsOf}
+use Rattle.profile.specs.Table.{handleOf, rightOf, slotsOf}
 use Rattle.profile.specs.Frame.{duplicate}
-use Rattle.profile.specs.Request.{retrieve, rek, enable}
+use Rattle.profile.specs.Request.{enable}
 use Rattle.profile.specs.Agent.{Given, Answer, nothing, done, find, whenFound, lendAt, enableAt, act}
 use Rattle.slots.specs.declared.place.Place.{Place}
 use Rattle.slots.specs.declared.place.Place.the-variants.{Empty, Reserved, Enabled, Disabled}
-use Rattle.slots.specs.Places.{placeNumber}
 use Rattle.slots.proofs.place.Place.{the-type}
 use Rattle.tables.specs.LookUp.{foundAt}
 use Rattle.changes.specs.Change.{slotAt}
-use Rattle.tallies.specs.declared.update.Change.{Change}
-use Rattle.tallies.specs.declared.update.Change.the-variants.{Moved}
-use Rattle.tallies.specs.Changes.{changeIn}
 use Rattle.decisions.specs.declared.decision.Decision.{Decision}
 use Rattle.decisions.specs.declared.decision.Decision.the-variants.{Refuse, Take}
 use Rattle.decisions.specs.Decisions.{takesPlace, lendable, installed, decided, unlessUsed}
-use Rattle.decisions.specs.Serving.{Ready, Serves, answerTo}
+use Rattle.decisions.specs.Serving.{Ready, answerTo}
 use Rattle.decisions.proofs.Answers.{Denied}
 use Rattle.decisions.proofs.Deciding.{expects, refuses, Held, chosen-enabled, lending-refused, lending-decided}
-use Rattle.rights.specs.Lending.{lentBy}
 
 -- ---- 3 and 4, by the decision d, whatever they give
 module _ (T B h k : Bytes) (bytes : Bytes256 T) (r : Ready T B) (d : Decision) (e : d ≡ unlessUsed (inUse k (slotsOf T)) (decided lendable (foundAt (find h (slotsOf T))))) where
@@ -54,15 +49,6 @@ module _ (T B h k : Bytes) (bytes : Bytes256 T) (r : Ready T B) (d : Decision) (
 
     pub lends : (give : Right → Given) → whenFound (find h (slotsOf T)) (lendAt (slotsOf T) k give) ≡ done (give (rightOf (slotAt T i))) (set (slotsOf T) i (taken k (disabled (rightOf (slotAt T i)))))
     lends give = rw (to-lend .found, free .0)
-
-module _ {T B T' B' : Bytes} {y : Change} (h k : Bytes) where
-  pub retrieved : Serves 3 (whenFound (find h (slotsOf T)) (lendAt (slotsOf T) k (lentBy 3))) T B T' B' y → Serves 3 (answerTo T (retrieve h k)) T B T' B' y
-  unfolding act
-  retrieved s = s
-
-  pub queried : Serves 4 (whenFound (find h (slotsOf T)) (lendAt (slotsOf T) k (lentBy 4))) T B T' B' y → Serves 4 (answerTo T (rek h k)) T B T' B' y
-  unfolding act
-  queried s = s
 
 -- ---- 5, on a record that is installed
 -- an else after `let Place::Disabled`

@@ -1,11 +1,11 @@
 -- One step of the search for an empty slot, and its end: what the slots on the way from the start say. Assumes nothing.
-use Prim.Native.Nat.{ℕ, suc, _+_, _*_, _≤_, _<_}
+use Prim.Native.Nat.{ℕ, _+_, _*_, _≤_, _<_}
 use mathlib.Core.Path.{_≡_, refl, sym, ap, _∙_}
-use mathlib.Core.Option.{Option, some}
+use mathlib.Core.Option.{some}
 use native.Mathlib.Omega.{arith}
 use mathlib.Core.Bool.{Bool, true, false}
 use lib.Dec.{ltb}
-use lib.ListN.{length, getElem?, drop}
+use lib.ListN.{length, getElem?}
 use Rattle.profile.specs.Bytes.{Bytes, part}
 use Rattle.profile.specs.Slot.{Slot, empty}
 use Rattle.profile.specs.Table.{placeOf, unpack, slotCount, slotsOf}

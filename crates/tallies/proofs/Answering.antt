@@ -1,19 +1,18 @@
 -- Every answer of the agent changes one slot at most, so that a tally is brought up to date by it. Assumes nothing.
-use Prim.Native.Nat.{ℕ, suc, _≤_, _<_}
+use Prim.Native.Nat.{ℕ, _≤_}
 use mathlib.Core.Path.{_≡_, refl, sym}
 use mathlib.Core.Logic.{_⊎_, inl, inr}
 use mathlib.Core.List.{List}
 use mathlib.Core.Option.{some}
 use mathlib.Core.Bool.{true}
 use native.Mathlib.Omega.{arith}
-use lib.ListN.{length, set, getElem?}
+use lib.ListN.{length, getElem?}
 use Rattle.profile.specs.Bytes.{Bytes}
 use Rattle.profile.specs.Slot.{Right, Entry, reserved, enabled, disabled, Slot, empty, taken, TableFits}
 use Rattle.profile.specs.Table.{slotsOf, wholeSlots, wellTable}
 use Rattle.profile.specs.Tally.{tallyOf}
 use Rattle.profile.specs.Request.{Request, setup, install, retrieve, rek, enable, remove, cancel, list, info, RequestFits}
-use Rattle.profile.specs.Agent.{Given, Answer, deny, done, Found, absent, one, find, act, tableAfter}
-use Rattle.profile.specs.Laws.{FoundIs}
+use Rattle.profile.specs.Agent.{Given, Answer, deny, done, one, find, act, tableAfter}
 use Rattle.profile.proofs.Lookup.{EmptyAt, here, there, Free}
 use Rattle.profile.proofs.Laws.{found-is}
 use Rattle.profile.proofs.Tables.{slots-table}
@@ -21,7 +20,7 @@ use Rattle.profile.proofs.WellFormed.{table-fits, few-slots}
 use Rattle.profile.proofs.Fitting.{fitting}
 use Rattle.profile.proofs.Steps.{Turns, Stays, Returns, Does, Answers, acts}
 use Rattle.slots.specs.Places.{placeNumber}
-use Rattle.tallies.specs.Changes.{placeIn, slotsThen, changeIn, changeBy, updated, Updates}
+use Rattle.tallies.specs.Changes.{placeIn, slotsThen, changeBy, updated, Updates}
 use Rattle.tallies.proofs.Changing.{OneSlot, none-moved, one-updated, one-updates}
 
 -- ---- the one slot

@@ -1,6 +1,6 @@
 -- What a change of one slot is to a tally: the slot was counted, the new numbers are those of the new slots, and they have 16 bits. Assumes nothing.
-use Prim.Native.Nat.{ℕ, zero, suc, _+_, _*_, _≤_}
-use mathlib.Core.Path.{_≡_, refl, sym, ap, _∙_}
+use Prim.Native.Nat.{ℕ, zero, suc, _*_, _≤_}
+use mathlib.Core.Path.{_≡_, refl, ap, _∙_}
 use mathlib.Core.List.{List, [], _∷_}
 use mathlib.Core.Option.{some, Option·some-injective}
 use mathlib.Core.Bool.{Bool, true, false}
@@ -8,7 +8,7 @@ use native.Mathlib.Omega.{arith}
 use lib.Dec.{eqb}
 use lib.ListN.{length, set, getElem?}
 use Rattle.profile.specs.Slot.{reserved, enabled, disabled, Slot, empty, taken, TableFits}
-use Rattle.profile.specs.Tally.{Tally, tallyWith, inSlot, plus, tallyOf}
+use Rattle.profile.specs.Tally.{Tally, inSlot, plus, tallyOf}
 use Rattle.profile.proofs.Logic.{eqb-eq, eqb-true}
 use Rattle.profile.proofs.FirstEmpty.{not-there}
 use Rattle.profile.proofs.TallyLaws.{sum, sums, counts-all, tally-slot}

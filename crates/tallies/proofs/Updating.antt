@@ -1,6 +1,6 @@
 -- A tally less a slot and with one more, place by place. Assumes nothing.
 use Prim.Native.Nat.{ℕ, _+_, _-_, _≤_, _<_, _^_}
-use mathlib.Core.Path.{_≡_, refl, sym, ap, _∙_}
+use mathlib.Core.Path.{_≡_, refl, ap, _∙_}
 use native.Mathlib.Omega.{arith}
 use Rattle.profile.specs.Slot.{Count}
 use Rattle.profile.specs.Tally.{Tally, tallyWith, plus}

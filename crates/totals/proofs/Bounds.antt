@@ -9,12 +9,9 @@ use lib.IntN.{ℤ, pos, negsuc, negℤ, natAbs, _+ℤ_, _-ℤ_, +ℤ-idl, +ℤ-i
 use lib.Signed.{leZ}
 use mir.Syntax.{w32}
 use mir.Val.{SFits}
-use Rattle.profile.specs.Total.{Return, change, counted, Totals, totalsWith, totalsHold, withReturn}
+use Rattle.profile.specs.Total.{Return, change, counted, totalsWith, totalsHold, withReturn}
 use Rattle.profile.proofs.Logic.{and-parts, ltb-false, ltb-lt, leb-le}
 use Rattle.profile.proofs.Signed.{difference-size, sum-size}
-use Rattle.totals.specs.declared.change.Counts.{Counts}
-use Rattle.totals.specs.declared.change.Counts.the-variants.{NotBoth, Both}
-use Rattle.totals.specs.Returns.{countsOf}
 use Rattle.totals.proofs.Fitting.{size-fits}
 
 -- ---- a size that is at most m, by both signs

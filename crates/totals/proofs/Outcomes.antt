@@ -13,7 +13,7 @@ use Rattle.profile.specs.Table.{slotsOf}
 use Rattle.profile.specs.Agent.{Call, Outcome, refuse, agent}
 use Rattle.profile.specs.Slot.{Count}
 use Rattle.profile.specs.declared.Count.the-variants.{NoneKept, Kept}
-use Rattle.profile.specs.Total.{Return, noReturn, returned, returnOf, change, changeOf, totalsWith, totalsHold, withReturn, Totalled, totalling}
+use Rattle.profile.specs.Total.{Return, noReturn, returned, returnOf, change, changeOf, totalsWith, totalsHold, withReturn, totalling}
 use Rattle.profile.proofs.Logic.{not-true}
 use Rattle.profile.proofs.Total.{refused-108, called}
 use Rattle.tallies.specs.declared.update.Change.{Change}

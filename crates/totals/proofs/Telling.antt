@@ -1,22 +1,21 @@
 -- What a call did to the slots says what was returned: the change from the slots before to those after, by the profile's words. Assumes nothing.
 use Prim.Native.Nat.{ℕ}
-use mathlib.Core.Path.{_≡_, refl, sym, ap, _∙_}
+use mathlib.Core.Path.{_≡_, refl}
 use mathlib.Core.Logic.{_⊎_, inl, inr}
 use mathlib.Core.List.{List, [], _∷_}
 use mathlib.Core.Option.{some}
 use mathlib.Core.Bool.{true, false}
 use native.Mathlib.Omega.{arith}
 use lib.Dec.{eqb}
-use lib.ListN.{set, getElem?}
+use lib.ListN.{getElem?}
 use Rattle.profile.specs.Bytes.{Bytes}
-use Rattle.profile.specs.Slot.{Count, Right, recount, Entry, reserved, enabled, disabled, Slot, empty, taken}
-use Rattle.profile.specs.Table.{slotsOf, tableOf, wholeSlots, wellTable}
-use Rattle.profile.specs.Frame.{kindNumber, statusIn}
+use Rattle.profile.specs.Slot.{Right, Entry, reserved, enabled, disabled, Slot, empty, taken}
+use Rattle.profile.specs.Table.{slotsOf, wholeSlots, wellTable}
+use Rattle.profile.specs.Frame.{kindNumber}
 use Rattle.profile.specs.Request.{Request, setup, install, retrieve, rek, enable, remove, cancel, list, info, Read, asks, refused, noFrame, readRequest}
-use Rattle.profile.specs.Agent.{Given, Answer, deny, done, find, one, act, status, Call, Outcome, refuse, replied, obey, onBytes, agent}
-use Rattle.profile.specs.History.{Exchange}
+use Rattle.profile.specs.Agent.{Given, Answer, deny, done, find, act, status, Call, Outcome, refuse, replied, obey, onBytes, agent}
 use Rattle.profile.specs.Run.{exchange}
-use Rattle.profile.specs.Total.{Return, noReturn, returned, returnFrom, returnBy, returnIn, returnOf}
+use Rattle.profile.specs.Total.{Return, noReturn, returnFrom, returnBy, returnIn, returnOf}
 use Rattle.profile.proofs.Lookup.{Free}
 use Rattle.profile.proofs.Laws.{found-is}
 use Rattle.profile.proofs.Tables.{slots-table}
@@ -28,7 +27,6 @@ use Rattle.profile.proofs.Counts.{status-over}
 use Rattle.profile.proofs.Steps.{Turns, Stays, Returns, Does, Answers, acts}
 use Rattle.profile.proofs.Numbers.{by-agent}
 use Rattle.slots.specs.Places.{placeNumber}
-use Rattle.tallies.specs.declared.update.Change.{Change}
 use Rattle.tallies.specs.Changes.{placeIn, moved, changeIn}
 use Rattle.tallies.proofs.Changing.{none-moved, one-moved}
 use Rattle.tallies.proofs.Answering.{empty-there}

@@ -1,10 +1,9 @@
 -- `hashes::has_hash` meets its contract. The invariant: the hashes from i on decide. Assumes nothing.
 use denote.Ref.{now}
 use mathlib.Core.Path.{_≡_, refl, sym, ap, _∙_}
-use mathlib.Core.Bool.{Bool}
 use native.Mathlib.Omega.{arith}
 use Prim.Native.Nat.{_≤_, _-_}
-use lib.ListN.{length, drop}
+use lib.ListN.{drop}
 use borrow.Author.Needs.{needs}
 use Rattle.profile.specs.Bytes.{same, any, pieces}
 use Rattle.slots.proofs.Turns.{any-pass, any-stop}
