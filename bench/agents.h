@@ -1,4 +1,4 @@
-/* The agents that are measured, the proved one first. The build defines OTHER_AGENTS, the list of the others, as
+/* The agents that are measured, the proved call first. The build defines OTHER_AGENTS, the list of the others, as
  * AGENT(name, function) for each.
  */
 #ifndef AGENTS_H

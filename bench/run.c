@@ -1,6 +1,6 @@
-/* Measures the proved agent and its counterparts in C and Rust, in one run.
+/* Measures the proved call, the totalling call, and the call's counterparts in C and Rust, in one run.
  *
- * It prints a line for each scenario: the proved agent's time, its ratios to the others' times, and its ratio to the time that
+ * It prints a line for each scenario: the proved call's time, its ratios to the others' times, and its ratio to the time that
  * reading the table takes. The agents take turns within each round, and each round gives one ratio, so that whatever else the
  * machine does in that time slows all of them alike. Before anything is timed, every agent must give the same numbers, replies,
  * tables and tallies.

@@ -24,6 +24,7 @@ void two_frames(int deeper) {
     outside(bytes);
 }
 
-/* The call and the salvage by their names alone, with frames that the test chooses. */
+/* The call, the totalling call and the salvage by their names alone, with frames that the test chooses. */
 FRAME(cavernlull_call, CALL_FRAME)
+FRAME(cavernlull_call_totalling, TOTALLING_FRAME)
 FRAME(cavernlull_salvage, SALVAGE_FRAME)
