@@ -132,24 +132,24 @@ enum {
     CAVERNLULL_MOST_RETURNS = 30000
 };
 
-/* The totalling call (PROFILE 4.5): makes one call, as `cavernlull_call` does with the same arguments, and keeps a running total of
- * what returns did to counts.
+/* The totalling call (PROFILE 4.5): makes one call, as `cavernlull_call` does with the same arguments, and keeps a running total
+ * of what returns did to counts.
  *
- * A return is a Rights Enablement with status 0 of a record that was disabled. Its change is the count sent minus the count that was
- * stored: below 0 where starts were used, above 0 where a device hands back more than it took. It is counted where the record and
- * the request both keep a count, also where the change is 0. Every other call has the change 0, and is not counted: so does a return
- * that is sent again, of a record that is enabled already.
+ * A return is a Rights Enablement with status 0 of a record that was disabled. Its change is the count sent minus the count that
+ * was stored: below 0 where starts were used, above 0 where a device hands back more than it took. It is counted where the record
+ * and the request both keep a count, also where the change is 0. Every other call has the change 0 and is not counted. So has a
+ * return that is sent again, of a record that is enabled already.
  *
- * `total` is the sum of the changes so far, and `returns` says how many counted returns are in it. Both are 0 at first, and are carried
- * from call to call. `change` is only written to: what it held makes no difference.
+ * `total` is the sum of the changes so far, and `returns` says how many counted returns are in it. Both are 0 at first, and are
+ * carried from call to call. `change` is only written to: what it held makes no difference.
  *
- * Returns this number before everything that the call tests, and then makes no call and changes nothing at all, `change` included:
+ * Returns this number before everything that the call tests, and then makes no call and changes nothing at all, not even `change`:
  *   108 CAVERNLULL_TOTAL_OUTSIDE          `returns` is 30,000 or more, or `total` is more than 65,535 times `returns` above or
- *                                         below 0. After 30,000 counted returns, note both numbers and begin again with 0 and 0
+ *                                         below 0. After 30,000 counted returns, note both numbers and begin with 0 and 0 again
  *
- * Otherwise returns what `cavernlull_call` returns, with the same effect on `table`, `tally` and `reply`. With 0 it adds the change to
- * `total`, adds 1 to `returns` if the call is a counted return, and writes the change to `change`. With every other number `total` and
- * `returns` stay as they were, and `change` becomes 0.
+ * Otherwise returns what `cavernlull_call` returns, with the same effect on `table`, `tally` and `reply`. With 0 it adds the
+ * change to `total`, adds 1 to `returns` if the call is a counted return, and writes the change to `change`. With every other
+ * number `total` and `returns` stay as they were, and `change` becomes 0.
  */
 uint16_t cavernlull_call_totalling(uint8_t *table, size_t table_length, struct cavernlull_tally *tally, size_t start,
                                    const uint8_t *frame, size_t frame_length, uint8_t *reply, size_t reply_length,
