@@ -2,7 +2,7 @@
 //! listings are those of the reference.
 
 use cavernlull::{AssetHash, Card, Handle, Key, Kind, Reply, Request, Right, Status};
-use cavernlull::{CallError, Error, SalvageError, Tally, TallyError, TurnError};
+use cavernlull::{CallError, Error, SalvageError, Tally, TallyError, Totals, TurnError};
 use cavernlull::{Verdict, WriteError};
 use compare::damage::{self, Damage};
 use compare::frames::Asker;
@@ -384,4 +384,68 @@ fn refused(rng: &mut Rng, table: Vec<u8>) -> u16 {
     assert!(card.table() == table);
     assert_eq!(numbers(card.tally()), wrong);
     error.number()
+}
+
+/// Totals that a total can have, that are full, and that cannot be.
+const TOTALS: [(i32, u16); 5] = [
+    (0, 0),
+    (-65_535, 1),
+    (7, 29_999),
+    (7, reference::MOST_RETURNS),
+    (65_536, 1),
+];
+
+/// Totals that are carried along, and others in between: the crate's are those of
+/// the reference, and each answer has its change and whether it was counted.
+#[test]
+fn totals_are_kept_as_the_reference_keeps_them() {
+    let mut rng = Rng::announced("totals of the crate");
+    let mut seen = BTreeSet::new();
+    for slots in 1..=MAX_SLOTS {
+        let asker = Asker::new(slots);
+        let mut pair = Pair::on(blank(slots));
+        let (mut totals, mut expected) = (Totals::new(), reference::Totals::default());
+        for _ in 0..REQUESTS {
+            if rng.one_in(20) {
+                (expected.total, expected.returns) = rng.pick(&TOTALS);
+                totals = Totals::from_parts(expected.total, expected.returns);
+            }
+            let frame = asker.frame(&mut rng);
+            seen.insert(totalled(&mut pair, &frame, &mut totals, &mut expected));
+        }
+    }
+    for change in [-1, 0, 1] {
+        assert!(seen.contains(&(0, true, change)), "{change}: {seen:?}");
+    }
+    assert!(seen.contains(&(0, false, 0)), "{seen:?}");
+    assert!(seen.contains(&(108, false, 0)), "{seen:?}");
+}
+
+/// Has both make a totalling call with the same frame; gives the number, whether it
+/// was a counted return, and the sign of its change.
+fn totalled(
+    pair: &mut Pair,
+    frame: &[u8],
+    totals: &mut Totals,
+    expected: &mut reference::Totals,
+) -> (u16, bool, i32) {
+    let (mut left, mut reply) = ([0; REPLY_ROOM], [0; REPLY_ROOM]);
+    let (table, tally) = (&mut pair.table, &mut pair.tally);
+    let returns = expected.returns;
+    let number = reference::call_totalling(table, tally, 0, frame, &mut left, expected);
+    let (given, counted, change) = match totals.call_frame(&mut pair.card, frame, &mut reply) {
+        Ok(answer) => (0, answer.counted, answer.change),
+        Err(error) => (error.number(), false, 0),
+    };
+    assert_eq!(given, number, "{frame:02X?}");
+    assert_eq!(counted, expected.returns != returns, "{frame:02X?}");
+    if number == 0 {
+        assert_eq!(change, expected.change, "{frame:02X?}");
+    }
+    let (total, returns) = (expected.total, expected.returns);
+    assert_eq!(*totals, Totals::from_parts(total, returns), "{frame:02X?}");
+    assert!(reply == left, "{frame:02X?}");
+    assert!(pair.card.table() == pair.table, "{frame:02X?}");
+    assert_eq!(numbers(pair.card.tally()), pair.tally.numbers());
+    (number, counted, change.signum())
 }
