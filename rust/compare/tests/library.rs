@@ -6,6 +6,7 @@ use cavernlull::{CallError, Error, SalvageError, Tally, TallyError, Totals, Turn
 use cavernlull::{Verdict, WriteError};
 use compare::damage::{self, Damage};
 use compare::frames::Asker;
+use compare::returns::next_frame;
 use compare::starts::{inside, start};
 use compare::tables::{before_turning, blank, damaged, report_buffer, with_unhashed};
 use compare::tallies::{tally_of, wrong};
@@ -410,7 +411,7 @@ fn totals_are_kept_as_the_reference_keeps_them() {
                 (expected.total, expected.returns) = rng.pick(&TOTALS);
                 totals = Totals::from_parts(expected.total, expected.returns);
             }
-            let frame = asker.frame(&mut rng);
+            let frame = next_frame(&mut rng, &asker, &pair.table);
             seen.insert(totalled(&mut pair, &frame, &mut totals, &mut expected));
         }
     }
