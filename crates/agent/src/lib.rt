@@ -98,12 +98,13 @@ fn serve(
     lend(table, reply, asked, kind)
 }
 
-// On a well-formed table: 104, or 0 with a status or what the request does; and what it did to the slots.
+// What comes of a frame: the number of the call, and what was done to the slots.
 struct Answered {
     number: u16,
     change: Change,
 }
 
+// On a well-formed table: 104, or 0 with a status or what the request does. The tally is not looked at: it follows from the change.
 fn answer(table: &mut [u8], start: usize, frame: &[u8], reply: &mut [u8]) -> Answered
     requires { ⌜ Ready (now table) (now reply) × (start < slotCount (now table)) ⌝ }
     ensures { λ r. ⌜ Obeys (now (table .entry)) start (now (frame .entry)) (now (reply .entry)) (now (table .exit)) (now (reply .exit)) (r .number) (r .change) ⌝ }
