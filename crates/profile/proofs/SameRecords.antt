@@ -8,7 +8,7 @@ use native.Mathlib.Omega.{arith}
 use lib.Dec.{eqb, leb, ltb}
 use lib.ListN.{length, set, getElem?, length-append}
 use Rattle.profile.specs.Bytes.{Bytes, In}
-use Rattle.profile.specs.Slot.{Count, Right, Entry, reserved, enabled, disabled, Slot, empty, taken, inUse}
+use Rattle.profile.specs.Slot.{Count, raises, Right, Entry, reserved, enabled, disabled, Slot, empty, taken, inUse}
 use Rattle.profile.specs.Tally.{tallyWith, inSlot, tallyOf}
 use Rattle.profile.specs.Frame.{Refusal}
 use Rattle.profile.specs.Request.{Request, setup, install, retrieve, rek, enable, remove, cancel, list, info}
@@ -172,7 +172,7 @@ module _ {t u : List Slot} (a : Like t u) where
   enables : (h : Bytes) (c : Count) {q : Request} (i j : ℕ) (e : Entry) → Alike q (enableAt t h c i e) (enableAt u h c j e)
   enables h c i j (reserved n) = both-deny
   enables h c i j (enabled r) = both-give
-  enables h c i j (disabled r) = both-give
+  enables h c {q} i j (disabled r) = if-two (Alike q) (raises (r .count) c) both-deny (λ _. both-give)
 
   removes : {q : Request} (i j : ℕ) (e : Entry) → Alike q (removeAt t i e) (removeAt u j e)
   removes i j (reserved n) = both-deny

@@ -16,6 +16,7 @@ tables-hold =
       in-use = refl;
       recounted = refl;
       said = refl;
+      raised = refl;
       says = refl;
       bits = refl;
       numbers = refl;

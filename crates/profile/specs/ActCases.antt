@@ -6,7 +6,7 @@ use mathlib.Core.Bool.{Bool, true, false}
 use lib.ListN.{take, replicate}
 use Rattle.profile.specs.Bytes.{Bytes, joined, pieces}
 use Rattle.profile.specs.Slot.{NoneKept, Kept, Right, rightWith, recount, reserved, enabled, disabled, Slot, empty, taken}
-use Rattle.profile.specs.Frame.{Refusal, parameter, notFound, duplicate, unexpected, noSpace}
+use Rattle.profile.specs.Frame.{Refusal, parameter, notFound, duplicate, unexpected, noSpace, countRaised}
 use Rattle.profile.specs.Request.{Request, setup, install, retrieve, rek, enable, remove, cancel, list, info}
 use Rattle.profile.specs.Agent.{Given, nothing, theRight, theKey, handles, counted, Answer, deny, done, act, lowestEmpty, firstEmptyFrom, firstOf}
 use Rattle.profile.specs.CaseBytes.{hex, counting, H1, H2, H3, H4, H1-last, K, L, A, B, A-last, A-first, eight, five}
@@ -24,7 +24,7 @@ denies t q r = record { slots = t; request = q; answer = deny r }
 abbrev pub gives : List Slot → Request → Given → List Slot → Case
 gives t q g u = record { slots = t; request = q; answer = done g u }
 
--- ---- rights: with no hash, with A, with A and B, with B alone, with eight hashes; a key of zeros; six bytes of payload
+-- ---- rights: with no hash, with A, with A and B, with B alone, with eight hashes and no count; a key of zeros; a count that is used up; six bytes of payload
 abbrev pub plain : Right
 plain = rightWith K (Kept 7) [] five
 
@@ -42,6 +42,9 @@ full8 = rightWith K NoneKept (pieces 20 8 eight) five
 
 abbrev pub zeroKey : Right
 zeroKey = rightWith (replicate 16 0x00) (Kept 7) [] five
+
+abbrev pub spent : Right
+spent = rightWith K (Kept 0) [] five
 
 abbrev pub six : Right
 six = rightWith K (Kept 7) (A ∷ []) (hex "A1 A2 A3 A4 A5 A6")
@@ -123,13 +126,29 @@ others =
     -- 5.5
     denies full (enable H4 (Kept 3)) notFound
     ∷ denies full (enable H1 (Kept 3)) unexpected
+    -- an enabled record stays as it is, whatever the count sent
     ∷ gives full (enable H2 (Kept 3)) nothing full
+    ∷ gives full (enable H2 (Kept 65535)) nothing full
     ∷ gives full (enable H2 NoneKept) nothing full
+    -- a kept count: fewer, none left, and as many; used up, a count is still kept
     ∷ gives full (enable H3 (Kept 3)) nothing (taken H1 (reserved 5) ∷ taken H2 (enabled both) ∷ taken H3 (enabled (recount (Kept 3) plain)) ∷ [])
-    -- used up, a count is still kept; none is kept only where the request says so
     ∷ gives full (enable H3 (Kept 0)) nothing (taken H1 (reserved 5) ∷ taken H2 (enabled both) ∷ taken H3 (enabled (rightWith K (Kept 0) [] five)) ∷ [])
-    ∷ gives full (enable H3 NoneKept) nothing (taken H1 (reserved 5) ∷ taken H2 (enabled both) ∷ taken H3 (enabled (rightWith K NoneKept [] five)) ∷ [])
-    ∷ gives (taken H2 (disabled both) ∷ []) (enable H2 (Kept 65535)) nothing (taken H2 (enabled (rightWith L (Kept 65535) (A ∷ B ∷ []) (hex "BC"))) ∷ [])
+    ∷ gives full (enable H3 (Kept 7)) nothing (taken H1 (reserved 5) ∷ taken H2 (enabled both) ∷ taken H3 (enabled plain) ∷ [])
+    ∷ gives (taken H2 (disabled both) ∷ []) (enable H2 (Kept 255)) nothing (taken H2 (enabled (rightWith L (Kept 255) (A ∷ B ∷ []) (hex "BC"))) ∷ [])
+    -- one more, more in the high byte, the most, and none
+    ∷ denies full (enable H3 (Kept 8)) countRaised
+    ∷ denies full (enable H3 (Kept 263)) countRaised
+    ∷ denies full (enable H3 (Kept 65535)) countRaised
+    ∷ denies full (enable H3 NoneKept) countRaised
+    ∷ denies (taken H2 (disabled both) ∷ []) (enable H2 (Kept 259)) countRaised
+    -- a count that is used up
+    ∷ gives (taken H2 (disabled spent) ∷ []) (enable H2 (Kept 0)) nothing (taken H2 (enabled spent) ∷ [])
+    ∷ denies (taken H2 (disabled spent) ∷ []) (enable H2 (Kept 1)) countRaised
+    ∷ denies (taken H2 (disabled spent) ∷ []) (enable H2 NoneKept) countRaised
+    -- no count
+    ∷ gives (taken H1 (disabled full8) ∷ []) (enable H1 NoneKept) nothing (taken H1 (enabled full8) ∷ [])
+    ∷ denies (taken H1 (disabled full8) ∷ []) (enable H1 (Kept 0)) countRaised
+    ∷ denies (taken H1 (disabled full8) ∷ []) (enable H1 (Kept 3)) countRaised
     -- 5.6
     ∷ denies full (remove H4) notFound
     ∷ denies full (remove H1) unexpected

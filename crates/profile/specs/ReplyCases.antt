@@ -7,7 +7,7 @@ use mathlib.Core.Bool.{true, false}
 use lib.ListN.{take, replicate}
 use Rattle.profile.specs.Bytes.{Bytes, joined}
 use Rattle.profile.specs.Slot.{NoneKept, Kept, rightWith}
-use Rattle.profile.specs.Frame.{integrity, parameter, unsupported, notFound, duplicate, unexpected, noSpace}
+use Rattle.profile.specs.Frame.{integrity, parameter, unsupported, notFound, duplicate, unexpected, noSpace, countRaised}
 use Rattle.profile.specs.Agent.{nothing, theRight, theKey, handles, counted, deny, done, Answer, replyFrame}
 use Rattle.profile.specs.Device.{Reply, malformed, failed, gave, readReply, sent}
 use Rattle.profile.specs.CaseBytes.{hex, counting, sized, h, n, key, p, q, eight, eightHashes}
@@ -68,8 +68,21 @@ heads =
     ∷ bad (hex "28 08 00 00")
     ∷ bad (hex "29 08 00 00")
     ∷ bad (hex "3F 08 00 00")
-    ∷ bad (hex "21 09 00 00")
+    -- 9 is one, whatever the kind; it has no body, and no bit of a count
+    ∷ (hex "20 09 00 00", failed 0 9)
+    ∷ (hex "21 09 00 00", failed 1 9)
+    ∷ (hex "25 09 00 00", failed 5 9)
+    ∷ (hex "29 09 00 00", failed 9 9)
+    ∷ (hex "3F 09 00 00", failed 31 9)
+    ∷ bad (hex "25 09 00 01 00")
+    ∷ bad (hex "25 89 00 00")
+    ∷ bad (hex "29 89 00 00")
+    ∷ bad (hex "25 49 00 00")
+    -- no other number is
+    ∷ bad (hex "21 0A 00 00")
+    ∷ bad (hex "21 0B 00 00")
     ∷ bad (hex "21 10 00 00")
+    ∷ bad (hex "21 19 00 00")
     ∷ bad (hex "21 FF 00 00")
     -- the bit of a count beside a status, and in the success of a kind that gives none, known or not
     ∷ bad (hex "21 81 00 00")
@@ -189,6 +202,7 @@ answers =
     ∷ (3, deny duplicate, hex "23 05 00 00")
     ∷ (5, deny unexpected, hex "25 06 00 00")
     ∷ (1, deny noSpace, hex "21 07 00 00")
+    ∷ (5, deny countRaised, hex "25 09 00 00")
     ∷ (7, done nothing [], hex "27 00 00 00")
     ∷ (3, done (theRight (rightWith key (Kept 0x3132) (p ∷ q ∷ []) (hex "51 52"))) [], hex "23 80 00 3D" ++ key ++ hex "31 32 20" ++ p ++ q ++ hex "51 52")
     ∷ (3, done (theRight (rightWith key (Kept 0) [] (hex "51"))) [], hex "23 80 00 14" ++ key ++ hex "00 00 00 51")

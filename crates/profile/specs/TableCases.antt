@@ -5,7 +5,7 @@ use mathlib.Core.List.{List, [], _∷_, _++_, map}
 use mathlib.Core.Bool.{Bool, true, false}
 use lib.ListN.{replicate}
 use Rattle.profile.specs.Bytes.{Bytes}
-use Rattle.profile.specs.Slot.{NoneKept, Kept, keptBit, countNumber, countHolds, countWith, Right, rightWith, recount, reserved, enabled, disabled, Slot, empty, taken, inUse, distinct}
+use Rattle.profile.specs.Slot.{NoneKept, Kept, keptBit, countNumber, countHolds, countWith, raises, Right, rightWith, recount, reserved, enabled, disabled, Slot, empty, taken, inUse, distinct}
 use Rattle.profile.specs.Table.{placeOf, hashCountOf, keptOf, spareOf, unpack, pack, slotsOf, tableOf, wholeSlots, wellSlot, wellTable}
 use Rattle.profile.specs.CaseBytes.{hex, changed, H0, H1, H2, H3, H1-last, H1-first, K, L, A, B, five}
 use Rattle.profile.specs.CaseTables.{blank, after1, after7, after9, after11, counted7, lent7, usedUp, bare, bareLent, roomy, longest, hashed1, hashed2, lent2, hashed8, nameless, keyless, twins}
@@ -185,6 +185,9 @@ pub record Hold : Type 0 where
   pub recounted : recount (Kept 3) plain ≡ rightWith K (Kept 3) (A ∷ []) five
   -- PROFILE 2.6: a bit and a number: whether they say a count, which count they say, and how a count is said
   pub said : map (countHolds 0) (0 ∷ 1 ∷ 256 ∷ 65535 ∷ []) ++ map (countHolds 1) (0 ∷ 7 ∷ 65535 ∷ []) ≡ true ∷ false ∷ false ∷ false ∷ true ∷ true ∷ true ∷ []
+  -- which counts raise one: fewer, as many, one more, none; of no count, none and a kept one
+  pub raised : map (raises (Kept 258)) (Kept 0 ∷ Kept 255 ∷ Kept 258 ∷ Kept 259 ∷ Kept 65535 ∷ NoneKept ∷ []) ++ map (raises (Kept 0)) (Kept 0 ∷ Kept 1 ∷ NoneKept ∷ []) ++ map (raises NoneKept) (NoneKept ∷ Kept 0 ∷ Kept 7 ∷ [])
+      ≡ false ∷ false ∷ false ∷ true ∷ true ∷ true ∷ false ∷ true ∷ true ∷ false ∷ true ∷ true ∷ []
   pub says : countWith 0 0 ∷ countWith 1 0 ∷ countWith 1 7 ∷ [] ≡ NoneKept ∷ Kept 0 ∷ Kept 7 ∷ []
   pub bits : map keptBit (NoneKept ∷ Kept 0 ∷ Kept 7 ∷ []) ≡ 0 ∷ 1 ∷ 1 ∷ []
   pub numbers : map countNumber (NoneKept ∷ Kept 0 ∷ Kept 7 ∷ []) ≡ 0 ∷ 0 ∷ 7 ∷ []

@@ -43,7 +43,7 @@ totals c t u z = record { case = c; before = t; after = u; change = z }
 
 -- totals that stay as they are, with the change 0; and with 108, which leaves the change too
 abbrev pub uncounted : Case → TotalCase
-uncounted c = totals c (totalsWith (pos 2) 3) (totalsWith (pos 2) 3) (pos 0)
+uncounted c = totals c (totalsWith (below 1) 2) (totalsWith (below 1) 2) (pos 0)
 
 abbrev pub outside : Totals → Case → TotalCase
 outside t c = totals c t t (pos 77)
@@ -67,10 +67,11 @@ unfoldable pub cases : List TotalCase
 cases =
     -- case 25
     totals (done lent1 (back H2 "00 00") usedUp) noTotals (totalsWith (below 1) 1) (below 1)
-    ∷ totals (done lent1 (back H2 "00 04") (changed 28 0x04 usedUp)) (totalsWith (below 1) 1) (totalsWith (pos 2) 2) (pos 3)
-    ∷ totals (done lent1 (back H2 "00 01") (changed 28 0x01 usedUp)) (totalsWith (pos 2) 2) (totalsWith (pos 2) 3) (pos 0)
-    ∷ uncounted (done lent1 (backFree H2 "00 00") (renamed H2 after7))
-    ∷ uncounted (done after9 (back H2 "00 03") after11)
+    ∷ totals (refused lent1 (back H2 "00 04") "09") (totalsWith (below 1) 1) (totalsWith (below 1) 1) (pos 0)
+    ∷ totals (done lent1 (back H2 "00 01") (changed 28 0x01 usedUp)) (totalsWith (below 1) 1) (totalsWith (below 1) 2) (pos 0)
+    ∷ uncounted (refused lent1 (backFree H2 "00 00") "09")
+    ∷ uncounted (refused after9 (back H2 "00 03") "09")
+    ∷ uncounted (done after9 (backFree H2 "00 00") (renamed H2 after7))
     ∷ uncounted (done after11 (back H2 "00 04") after11)
     ∷ totals (done lent1 (back H2 "00 00") usedUp) (totalsWith (below 1965984465) 29999) (totalsWith (below 1965984466) 30000) (below 1)
     -- case 26
@@ -79,10 +80,11 @@ cases =
     ∷ outside (totalsWith (pos 65536) 1) not108
     ∷ outside (totalsWith (below 65536) 1) not108
     ∷ outside (totalsWith (pos 0) 30000) (stopped (take 4287 lent1) 4279 [] 108)
-    -- the least and the greatest change, and totals at their bounds
+    -- the least change and the greatest, and totals at their bounds; a total above 0 is carried on, and falls
     ∷ totals (done lentMost (back H2 "00 00") usedUp) (totalsWith (below 65535) 1) (totalsWith (below 131070) 2) (below 65535)
-    ∷ totals (done lentNone (back H2 "FF FF") backMost) (totalsWith (pos 65535) 1) (totalsWith (pos 131070) 2) (pos 65535)
-    ∷ totals (done lentNone (back H2 "FF FF") backMost) (totalsWith (pos 1965984465) 29999) (totalsWith (pos 1966050000) 30000) (pos 65535)
+    ∷ totals (done lentMost (back H2 "FF FF") backMost) (totalsWith (pos 1965984465) 29999) (totalsWith (pos 1965984465) 30000) (pos 0)
+    ∷ totals (done lentMost (back H2 "FF FE") (changed 28 0xFE backMost)) (totalsWith (pos 65535) 1) (totalsWith (pos 65534) 2) (below 1)
+    ∷ totals (refused lentNone (back H2 "FF FF") "09") (totalsWith (pos 65535) 1) (totalsWith (pos 65535) 1) (pos 0)
     ∷ totals (done lentMost (back H2 "00 00") usedUp) (totalsWith (below 1965984465) 29999) (totalsWith (below 1966050000) 30000) (below 65535)
     -- a kept count of 0 is a count like any other
     ∷ totals (done lentNone (back H2 "00 00") usedUp) (totalsWith (pos 2) 3) (totalsWith (pos 2) 4) (pos 0)
