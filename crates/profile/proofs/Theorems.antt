@@ -37,6 +37,7 @@ use Rattle.profile.proofs.ReplyCases.{replies-hold}
 use Rattle.profile.proofs.ListingCases.{listings-hold}
 use Rattle.profile.proofs.HistoryCases.{histories-hold}
 use Rattle.profile.proofs.SizeCases.{sizes-hold}
+use Rattle.profile.proofs.RisingCases.{rises-hold}
 use Rattle.profile.proofs.DemandCases.{demands-hold}
 use Rattle.profile.proofs.StartCases.{starts-hold}
 use Rattle.profile.proofs.TallyCases.{tallies-hold}
@@ -46,6 +47,10 @@ use Rattle.profile.proofs.SalvageCases.{salvages-hold}
 use Rattle.profile.proofs.TotalCases.{totals-hold}
 use Rattle.profile.proofs.Total.{change-within, refused-return, refused-108, called, gives-108, change-unread, stays-within}
 use Rattle.profile.proofs.Totals.{totals-told, totals-blank}
+use Rattle.profile.proofs.Changes.{never-above, total-not-above}
+use Rattle.profile.proofs.CountOrder.{raise-means}
+use Rattle.profile.proofs.Raising.{refused-9, only-9, returned-anyway}
+use Rattle.profile.proofs.Rising.{slot-never-rises}
 use Rattle.profile.proofs.Demand3.{demand-from, blank-ledger, demand-3}
 use Rattle.profile.proofs.Restart.{after-salvage, after-turning}
 use Rattle.profile.proofs.TallyLaws.{counts-all, tally-slot}
@@ -99,6 +104,7 @@ theorems =
       carries-on = carries-on;
       never-106 = never-106;
       change-within = change-within;
+      never-above = never-above;
       refused-return = refused-return;
       refused-108 = refused-108;
       gives-108 = gives-108;
@@ -107,6 +113,7 @@ theorems =
       stays-within = stays-within;
       totals-told = totals-told;
       totals-blank = totals-blank;
+      total-not-above = total-not-above;
       first-empty = first-empty;
       first-only = first-only;
       none-empty = none-empty;
@@ -117,6 +124,11 @@ theorems =
       sets-only = sets-only;
       lists-exactly = lists-exactly;
       lists-only = lists-only;
+      raise-means = raise-means;
+      refused-9 = refused-9;
+      only-9 = only-9;
+      returned-anyway = returned-anyway;
+      slot-never-rises = slot-never-rises;
       in-use = in-use;
       when-lent = when-lent;
       none-comes = none-comes;
@@ -134,6 +146,7 @@ theorems =
       replies-hold = replies-hold;
       listings-hold = listings-hold;
       histories-hold = histories-hold;
+      rises-hold = rises-hold;
       demands-hold = demands-hold;
       starts-hold = starts-hold;
       tallies-hold = tallies-hold;

@@ -26,6 +26,7 @@ use Rattle.profile.proofs.Fitting.{fitting, blank-fits}
 use Rattle.profile.proofs.Steps.{Turns, Stays, LendsOut, Returns, Does}
 use Rattle.profile.proofs.Calls.{Succeeds, Comes, comes}
 use Rattle.profile.proofs.Sound.{zeros-table}
+use Rattle.profile.proofs.CountOrder.{raise-means}
 
 -- ---- PROFILE 2.9
 -- the list without a limit, of all or by a hash, has the handle of an enabled record that is asked for
@@ -49,7 +50,7 @@ unfolding entryIn
 same-entry {h} {k} {e} {f} p = ap (entryIn e) (Option·some-injective (taken h e) (taken k f) p)
 
 -- a record is found under its handle, in its slot
-find-at : (t : List Slot) → distinct t ≡ true → (i : ℕ) (h : Bytes) (e : Entry) → getElem? t i ≡ some (taken h e) → find h t ≡ one i e
+pub find-at : (t : List Slot) → distinct t ≡ true → (i : ℕ) (h : Bytes) (e : Entry) → getElem? t i ≡ some (taken h e) → find h t ≡ one i e
 find-at t d i h e p = go (find h t) (found-is h t)
   where
     go : (x : Found) → FoundIs h t x → x ≡ one i e
@@ -75,7 +76,7 @@ module _ (free : ℕ) (t : List Slot) (d : distinct t ≡ true) (i : ℕ) (h : B
   unfolding act
   when-lent e =
       let f = find-at t d i h (disabled r) e in
-      record { is-returned = λ c. rw f; is-removed = rw f }
+      record { is-returned = λ c n. rw (f, raise-means (r .count) c .1 n); is-removed = rw f }
 
 -- ---- PROFILE 8.6: slots, before and after
 -- what stands in a slot after one slot was set: what stood there, or what was set there

@@ -1,12 +1,12 @@
 -- PROFILE 8.3, whole: what holds after every sequence of calls on a well-formed table, an all-zero one or any other.
-use Prim.Native.Nat.{ℕ, _*_}
+use Prim.Native.Nat.{ℕ, _+_, _*_}
 use mathlib.Core.Path.{_≡_}
 use mathlib.Core.Logic.{_↔_}
 use mathlib.Core.List.{List, [], _∷_, _++_}
 use mathlib.Core.Option.{some}
 use mathlib.Core.Bool.{Bool, true, false, _&&_}
 use lib.Dec.{eqb}
-use lib.ListN.{getElem?, take, drop}
+use lib.ListN.{length, getElem?, take, drop}
 use Rattle.profile.specs.Bytes.{Bytes, same, part, any, In, over}
 use Rattle.profile.specs.Slot.{Count, keptBit, Right, Entry, reserved, enabled, disabled, Slot, taken}
 use Rattle.profile.specs.Table.{slotBytes, slotsOf, wholeSlots, wellTable}
@@ -15,7 +15,8 @@ use Rattle.profile.specs.Request.{Request, setup, install, retrieve, rek
 use Rattle.profile.specs.Agent.{Call, agent}
 use Rattle.profile.specs.History.{open-setup, Owned, forUse, lent, Ledger, blankLedger, rightNumber, Exchange}
 use Rattle.profile.specs.Run.{exchangeOf, exchanges, tableThen, blankTable, ledgerOf, ledgerOn, underSlots, Agrees}
-use Rattle.profile.specs.Contents.{Contents}
+use Rattle.profile.specs.Contents.{Installed, installations, held, Contents}
+use Rattle.profile.specs.Rising.{NoHigher}
 
 -- ---- rights and records, one to one
 -- the right o stands under h, and e is its record
@@ -117,6 +118,14 @@ pub record Demand3On (l : Ledger) (table : Bytes) (cs : List Call) : Type 0 wher
   pub records : Records (ledgerOn l table cs) (slotsOf (tableThen table cs))
   -- each right has the key, hashes and payload that it had in the ledger before the calls or that its installation sent, and the count last given to it
   pub contents : Contents l (exchanges table cs) (ledgerOn l table cs)
+  -- the count of a right never rises: as the ledger has it after further calls, for use, lent or gone, it is no higher than after these
+  pub never-rises : (more : List Call) (i : ℕ) (earlier later : Owned)
+      → rightNumber i (ledgerOn l table cs) ≡ some earlier
+      → rightNumber i (ledgerOn l table (cs ++ more)) ≡ some later
+      → NoHigher (held earlier .count) (held later .count)
+  -- and so it is no higher than the one that its installation sent
+  pub since-installed : (i : ℕ) (o : Owned) (p : Installed) → rightNumber (length (l .rights) + i) (ledgerOn l table cs) ≡ some o → getElem? (installations (exchanges table cs)) i ≡ some p
+      → NoHigher (p .right .count) (held o .count)
   -- a key goes out only for a right that is for use at that moment, and what goes out is of this right
   pub key-out : (c : Call) (h k : Bytes) (o : KeyOut (tableThen table cs) c h k)
       → LentOut (ledgerOn l table cs) (ledgerOn l table (cs ++ (c ∷ []))) (o .asked) h k (c .buffer) (agent (tableThen table cs) c .reply)

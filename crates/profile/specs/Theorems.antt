@@ -11,14 +11,14 @@ use lib.IntN.{ℤ, natAbs}
 use lib.ListN.{length, drop, set, getElem?}
 use Rattle.profile.specs.Bytes.{Bytes, Bytes256, zeros, In, over, all, any, joined}
 use Rattle.profile.specs.Sizes.{slotSize, replyRoom}
-use Rattle.profile.specs.Slot.{Right, reserved, enabled, disabled, Slot, taken, distinct, SlotFits, TableFits}
+use Rattle.profile.specs.Slot.{Count, raises, Right, reserved, enabled, disabled, Slot, taken, distinct, SlotFits, TableFits}
 use Rattle.profile.specs.Table.{unpack, pack, wellSlot, slotBytes, slotCount, slotsOf, tableOf, wholeSlots, wellTable}
 use Rattle.profile.specs.Turning.{unpackBefore, keepsCount, Turned, turn}
 use Rattle.profile.specs.Tally.{tallyWith, inSlot, plus, tallyOf, tallyIn}
 use Rattle.profile.specs.Salvage.{Salvaged, salvage}
-use Rattle.profile.specs.Frame.{Kind, kindOf, isStatus, kindNumber, statusIn}
-use Rattle.profile.specs.Request.{Request, setup, list, asks, readRequest, writeRequest, withVerdict, RequestFits}
-use Rattle.profile.specs.Agent.{Given, Answer, done, find, act, lowestEmpty, firstEmptyFrom, replyFrame, Call, Outcome, refuse, replied, agent}
+use Rattle.profile.specs.Frame.{countRaised, Kind, kindOf, isStatus, kindNumber, statusIn}
+use Rattle.profile.specs.Request.{Request, setup, enable, list, asks, readRequest, writeRequest, withVerdict, RequestFits}
+use Rattle.profile.specs.Agent.{Given, Answer, deny, done, find, act, lowestEmpty, firstEmptyFrom, replyFrame, Call, Outcome, refuse, replied, agent}
 use Rattle.profile.specs.Device.{Fields, requestOf, fieldsIn, Arrays, Written, write, malformed, readReply, sent}
 use Rattle.profile.specs.BytesCases
 use Rattle.profile.specs.SizeCases
@@ -32,18 +32,20 @@ use Rattle.profile.specs.WriterCases
 use Rattle.profile.specs.ReplyCases
 use Rattle.profile.specs.ListingCases
 use Rattle.profile.specs.HistoryCases
+use Rattle.profile.specs.RisingCases
 use Rattle.profile.specs.DemandCases
 use Rattle.profile.specs.StartCases
 use Rattle.profile.specs.TallyCases
 use Rattle.profile.specs.UnlistedCases
 use Rattle.profile.specs.TotalCases
+use Rattle.profile.specs.Rising.{NoHigher, Raises, ReturnedAnyway, NotAbove}
 use Rattle.profile.specs.Demand3.{Demand3From, Demand3}
 use Rattle.profile.specs.Starts.{AlikeButPlaces, OtherStart, OtherStarts, SameCall, SameRun}
 use Rattle.profile.specs.Tallies.{CountsAll, Carries}
 use Rattle.profile.specs.Unlisted.{OpenToUse, OpenToReturn, HoldsRight, HoldsRightBut, FoundByCourse}
 use Rattle.profile.specs.Salvages.{Salvages, Beside}
 use Rattle.profile.specs.Total.{noReturn, returnOf, changeOf, Totals, totalsHold, totalling}
-use Rattle.profile.specs.Totals.{Within, FrameBytes, TotalsTold, TotalsFrom}
+use Rattle.profile.specs.Totals.{Within, totalsThen, FrameBytes, noTotals, TotalsTold, TotalsFrom}
 use Rattle.profile.specs.History.{blankLedger}
 use Rattle.profile.specs.Run.{numbersThen, blankTable, tableAfterAll, ledgerOf, ledgerThen}
 use Rattle.profile.specs.Laws.{Apart, Refuses, AStatus, FoundIs, Full, FirstEmpty, SetsFirst, ListsExactly}
@@ -154,8 +156,9 @@ pub record Theorems : Type 0 where
   -- carried along from a table's own tally it is never refused; so from an all-zero table of n slots with n, 0, 0, 0, 0
   pub carries-on : (table : Bytes) (cs : List Call) → Carries table (tallyIn table) cs → In 106 (numbersThen table cs) → ⊥
   pub never-106 : (n : ℕ) → 1 ≤ n → n ≤ 15 → (cs : List Call) → Carries (blankTable n) (tallyWith n 0 0 0 0) cs → In 106 (numbersThen (blankTable n) cs) → ⊥
-  -- PROFILE 8.7: the change of a call of bytes is at most 65,535 either way, and where the number is not 0 nothing is returned
+  -- PROFILE 8.7: the change of a call of bytes is at most 65,535 either way, and never above 0; where the number is not 0 nothing is returned
   pub change-within : (table : Bytes) → Bytes256 table → (c : Call) → Bytes256 (c .request) → natAbs (changeOf table c) ≤ 65535
+  pub never-above : (table : Bytes) (c : Call) → NotAbove (changeOf table c)
   pub refused-return : (table : Bytes) (c : Call) → eqb (agent table c .number) 0 ≡ false → returnOf table c ≡ noReturn
   -- PROFILE 4.5: with 108 everything stays as it was, and it is given exactly where the totals do not hold; else the outcome is the call's, word for word; what
   -- stands in the memory for the change makes no difference to anything else
@@ -169,6 +172,7 @@ pub record Theorems : Type 0 where
   pub stays-within : (table : Bytes) → Bytes256 table → (c : Call) → Bytes256 (c .request) → (t : Totals) (was : ℤ) → Within t → Within (totalling table c t was .totals)
   pub totals-told : (table : Bytes) → Bytes256 table → wholeSlots table ≡ true → wellTable table ≡ true → (cs : List Call) → FrameBytes cs → TotalsFrom table cs
   pub totals-blank : (n : ℕ) → 1 ≤ n → n ≤ 15 → (cs : List Call) → FrameBytes cs → TotalsTold blankLedger (blankTable n) cs
+  pub total-not-above : (table : Bytes) (cs : List Call) → NotAbove (totalsThen table noTotals cs .total)
   -- PROFILE 5.1: the search from a start: the first empty slot on its way, if there is one, and no other; none exactly where every slot is taken, so
   -- from any two starts alike; from slot 0 the lowest
   pub first-empty : (start : ℕ) (t : List Slot) → start < length t → (Full t → ⊥) → FirstEmpty start t (firstEmptyFrom start t)
@@ -187,6 +191,17 @@ pub record Theorems : Type 0 where
   -- PROFILE 2.9: a right on a card is listed, read, lent, retrieved, returned and removed whatever its hashes, and so where it has none
   pub in-use : (free : ℕ) (t : List Slot) → distinct t ≡ true → (i : ℕ) (h : Bytes) (r : Right) → getElem? t i ≡ some (taken h (enabled r)) → OpenToUse free t i h r
   pub when-lent : (free : ℕ) (t : List Slot) → distinct t ≡ true → (i : ℕ) (h : Bytes) (r : Right) → getElem? t i ≡ some (taken h (disabled r)) → OpenToReturn free t i h r
+  -- PROFILE 5.5: a count raises another exactly where it is not no higher; a return with such a count is 9, and nothing else is; with every other count the right is
+  -- returned (`when-lent`), and so it can be returned in any case
+  pub raise-means : (earlier later : Count) → (raises earlier later ≡ false) ↔ NoHigher earlier later
+  pub refused-9 : (free : ℕ) (t : List Slot) → distinct t ≡ true → (i : ℕ) (h : Bytes) (r : Right) → getElem? t i ≡ some (taken h (disabled r))
+      → (c : Count) → (NoHigher (r .count) c → ⊥) → act free t (enable h c) ≡ deny countRaised
+  pub only-9 : (free : ℕ) (t : List Slot) (q : Request) → act free t q ≡ deny countRaised → Raises t q
+  pub returned-anyway : (free : ℕ) (t : List Slot) → distinct t ≡ true → (i : ℕ) (h : Bytes) (r : Right) → getElem? t i ≡ some (taken h (disabled r)) → ReturnedAnyway free t i h r
+  -- PROFILE 8.3: where a slot of a well-formed table holds a right before a call and after it, the count is no higher afterwards; along whole sequences of calls this is
+  -- a part of demand 3, below
+  pub slot-never-rises : (table : Bytes) → Bytes256 table → wholeSlots table ≡ true → wellTable table ≡ true → (c : Call) (i : ℕ) (earlier later : Right)
+      → HoldsRight (slotsOf table) i earlier → HoldsRight (slotsOf (agent table c .table)) i later → NoHigher (earlier .count) (later .count)
   -- PROFILE 8.6: a right without a hash that stands on a card after a call stood there before it, in the same slot, if with another count
   pub none-comes : (table : Bytes) → Bytes256 table → wholeSlots table ≡ true → wellTable table ≡ true → (c : Call) (i : ℕ) (r : Right)
       → r .hashes ≡ [] → HoldsRight (slotsOf (agent table c .table)) i r → HoldsRightBut (slotsOf table) i r
@@ -207,6 +222,7 @@ pub record Theorems : Type 0 where
   pub replies-hold : ReplyCases.Hold
   pub listings-hold : ListingCases.Hold
   pub histories-hold : HistoryCases.Hold
+  pub rises-hold : RisingCases.Hold
   pub demands-hold : DemandCases.Hold
   pub starts-hold : StartCases.Hold
   pub tallies-hold : TallyCases.Hold

@@ -9,6 +9,7 @@ use Rattle.profile.specs.Bytes.{Bytes, In}
 use Rattle.profile.specs.Slot.{Count, Right, recount, reserved, enabled, disabled, Slot, empty, taken, inUse}
 use Rattle.profile.specs.Request.{retrieve, rek, enable, remove, list, info}
 use Rattle.profile.specs.Agent.{nothing, theRight, theKey, handles, counted, done, act}
+use Rattle.profile.specs.Rising.{NoHigher}
 
 -- ---- PROFILE 2.9: none of these asks for a right's hashes; so they hold of a right without one, too
 -- a list query for the hashes q, or for all handles, without a limit: the list is whole, and has the handle h
@@ -25,9 +26,9 @@ pub record OpenToUse (free : ℕ) (t : List Slot) (i : ℕ) (h : Bytes) (r : Rig
   pub is-retrieved : (k : Bytes) → inUse k t ≡ false → act free t (retrieve h k) ≡ done (theRight r) (set t i (taken k (disabled r)))
   pub is-removed : act free t (remove h) ≡ done nothing (set t i empty)
 
--- the right r is disabled under h in slot i: it is returned, and removed
+-- the right r is disabled under h in slot i: it is returned, with a count that is no higher, and removed
 pub record OpenToReturn (free : ℕ) (t : List Slot) (i : ℕ) (h : Bytes) (r : Right) : Type 0 where
-  pub is-returned : (c : Count) → act free t (enable h c) ≡ done nothing (set t i (taken h (enabled (recount c r))))
+  pub is-returned : (c : Count) → NoHigher (r .count) c → act free t (enable h c) ≡ done nothing (set t i (taken h (enabled (recount c r))))
   pub is-removed : act free t (remove h) ≡ done nothing (set t i empty)
 
 -- ---- PROFILE 8.6
