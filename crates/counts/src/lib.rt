@@ -2,7 +2,7 @@
 use profile::Count;
 ghost use mathlib.Core.Path.{_≡_};
 ghost use Prim.Native.Nat.{_<_};
-ghost use Rattle.profile.specs.Slot.{keptBit, countNumber, countHolds, countWith};
+ghost use Rattle.profile.specs.Slot.{keptBit, countNumber, countHolds, countWith, raises as countRaises};
 
 // Whether a bit and a number say a count: without the bit, the number must be 0.
 pub fn count_holds(bit: u8, n: u16) -> bool
@@ -39,5 +39,21 @@ pub fn number_of(count: Count) -> u16
     match count {
         Count::NoneKept => 0,
         Count::Kept(n) => n,
+    }
+}
+
+// Whether the count sent raises the one that is stored (PROFILE 5.5): exactly one of them is kept, or both are and the one sent is greater.
+pub fn raises(stored: Count, sent: Count) -> bool
+    ensures { λ r. ⌜ r ≡ countRaises stored sent ⌝ }
+{
+    match stored {
+        Count::NoneKept => match sent {
+            Count::NoneKept => false,
+            Count::Kept(_) => true,
+        },
+        Count::Kept(a) => match sent {
+            Count::NoneKept => true,
+            Count::Kept(b) => a < b,
+        },
     }
 }

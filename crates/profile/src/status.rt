@@ -14,3 +14,5 @@ pub const DUPLICATE_HANDLE: u8 = 5;
 pub const UNEXPECTED_REQUEST: u8 = 6;
 
 pub const NOT_ENOUGH_SPACE: u8 = 7;
+
+pub const COUNT_RAISED: u8 = 9;

@@ -6,6 +6,7 @@ use profile::sizes::KEY_BYTES;
 use profile::sizes::MOST_HASHES;
 use profile::sizes::MOST_PAYLOAD;
 use profile::sizes::MOST_SLOTS;
+use profile::status::COUNT_RAISED;
 use profile::status::NOT_ENOUGH_SPACE;
 use profile::status::SUCCESS;
 ghost use mathlib.Core.Path.{_≡_};
@@ -66,11 +67,11 @@ pub fn bit_allowed(kind: u8, bit: u8, status: u8) -> bool
     (bit == 0) | ((status == SUCCESS) & gives)
 }
 
-// Whether a number is a status: 0 to 7 (PROFILE 4.2). 8 is not.
+// Whether a number is a status: 0 to 7, or 9 (PROFILE 4.2). 8, between them, is not.
 pub fn is_status(s: u8) -> bool
     ensures { λ r. ⌜ r ≡ isStatus s ⌝ }
 {
-    s <= NOT_ENOUGH_SPACE
+    (s <= NOT_ENOUGH_SPACE) | (s == COUNT_RAISED)
 }
 
 // Whether the body is empty.

@@ -4,6 +4,7 @@ use decisions::decision::INSTALLED;
 use profile::Count;
 use profile::sizes::HANDLE_BYTES;
 use profile::slot::LENGTH_AT;
+use profile::status::COUNT_RAISED;
 use profile::status::SUCCESS;
 use slots::place::Place;
 use tallies::update::Change;
@@ -11,7 +12,8 @@ ghost use Rattle.profile.specs.Request.{enable as enablement};
 ghost use Rattle.decisions.specs.Serving.{Ready, Serves, answerTo};
 
 // PROFILE 5.5. Status 4 where no record is under the handle, 6 where it is reserved. A disabled record is enabled with the
-// count of the request. An enabled one stays as it is, with status 0: a device whose reply was lost may send its return again.
+// count of the request, and stays as it is, with status 9, where this would raise its own. An enabled one stays as it is, with status 0,
+// whatever the count: a device whose reply was lost may send its return again.
 pub fn enable(table: &mut [u8], reply: &mut [u8], h: [u8; HANDLE_BYTES], count: Count) -> Change
     requires { ⌜ Ready (now table) (now reply) ⌝ }
     ensures { λ r. ⌜ Serves 5 (answerTo (now (table .entry)) (enablement h count)) (now (table .entry)) (now (reply .entry)) (now (table .exit)) (now (reply .exit)) r ⌝ }
@@ -29,6 +31,10 @@ pub fn enable(table: &mut [u8], reply: &mut [u8], h: [u8; HANDLE_BYTES], count: 
             let slot = tables::part::slot_at(table, i);
             let length = words::word_at(slot, LENGTH_AT);
             let stored = slots::head::count_of(slot);
+            if counts::raises(stored, count) {
+                reply_writer::writer::reply_status(reply, 5, COUNT_RAISED);
+                return Change::Same;
+            }
             changes::give_back(table, i, count);
             reply_writer::writer::reply_status(reply, 5, SUCCESS);
             Change::Returned(length, stored, length, count)
