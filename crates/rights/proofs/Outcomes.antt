@@ -9,9 +9,9 @@ use types.Run.{OneOf}
 use denote.Enum.Declared.{tagOf}
 use lib.ListN.{set}
 use Rattle.profile.specs.Bytes.{Bytes, Bytes256}
-use Rattle.profile.specs.Slot.{Count, Right, recount, Entry, enabled, disabled, taken, inUse}
-use Rattle.profile.specs.Table.{handleOf, rightOf, slotsOf}
-use Rattle.profile.specs.Frame.{duplicate}
+use Rattle.profile.specs.Slot.{Count, raises, Right, recount, Entry, enabled, disabled, taken, inUse}
+use Rattle.profile.specs.Table.{handleOf, countOf, rightOf, slotsOf}
+use Rattle.profile.specs.Frame.{duplicate, countRaised}
 use Rattle.profile.specs.Request.{enable}
 use Rattle.profile.specs.Agent.{Given, Answer, nothing, done, find, whenFound, lendAt, enableAt, act}
 use Rattle.slots.specs.declared.place.Place.{Place}
@@ -71,8 +71,14 @@ module _ (T h : Bytes) (c : Count) where
   stays i Enabled s n = rw (s .0 .found)
   stays i Disabled s n = absurd (n refl)
 
-  pub returned : (i : ℕ) → Held T h i Disabled → answerTo T (enable h c) ≡ done nothing (set (slotsOf T) i (taken (handleOf (slotAt T i)) (enabled (recount c (rightOf (slotAt T i))))))
+  -- a disabled one whose count would rise is refused, and else it is enabled with the count sent
+  pub raised : (i : ℕ) → Held T h i Disabled → raises (countOf (slotAt T i)) c ≡ true → Denied 9 (answerTo T (enable h c))
   unfolding act
-  returned i w =
-      rw (w .found)
+  raised i w up = record { refusal = countRaised; numbered = refl; answer = rw (w .found, up) }
+
+  pub returned : (i : ℕ) → Held T h i Disabled → raises (countOf (slotAt T i)) c ≡ false
+      → answerTo T (enable h c) ≡ done nothing (set (slotsOf T) i (taken (handleOf (slotAt T i)) (enabled (recount c (rightOf (slotAt T i))))))
+  unfolding act
+  returned i w low =
+      rw (w .found, low)
       (ap (λ (k : Bytes). done nothing (set (slotsOf T) i (taken k (enabled (recount c (rightOf (slotAt T i))))))) (sym (w .handle-is)))

@@ -1,8 +1,9 @@
--- `rights::enable::enable` meets its contract: refused as it was decided, kept as it is, or enabled again. Assumes nothing.
+-- `rights::enable::enable` meets its contract: refused as it was decided or by its count, kept as it is, or enabled again. Assumes nothing.
 use denote.Ref.{now}
-use mathlib.Core.Path.{_≡_, ap, _∙_}
+use mathlib.Core.Path.{_≡_, sym, ap, _∙_}
 use mathlib.Core.Bool.{true}
 use Rattle.profile.specs.Bytes.{Bytes256}
+use Rattle.profile.specs.Slot.{Count, raises as countRaises}
 use Rattle.profile.specs.Table.{countOf, lengthOf}
 use Rattle.octets.proofs.ByteBounds.{below-256}
 use Rattle.changes.specs.Change.{slotAt}
@@ -11,7 +12,7 @@ use Rattle.slots.specs.declared.place.Place.the-variants.{Disabled}
 use Rattle.decisions.specs.Decisions.{takesPlace, installed}
 use Rattle.decisions.proofs.Answers.{refused-serves, done-serves, kept-serves}
 use Rattle.decisions.proofs.Deciding.{Held, chosen, return-moves}
-use Rattle.rights.proofs.Outcomes.{not-disabled, enable-refused, stays, returned}
+use Rattle.rights.proofs.Outcomes.{not-disabled, enable-refused, stays, raised, returned}
 use borrow.Author.Needs.{needs}
 use Rattle.rights.proofs.enable.enable.Statement.{statement}
 use Rattle.rights.proofs.enable.enable.Tie as tie
@@ -88,10 +89,16 @@ word-at-requires c κs = search needs
 count-of-requires : tie.Need-count-of-requires
 count-of-requires c κs = search needs
 
-give-back-requires : tie.Need-give-back-requires
-give-back-requires c κs =
-    let w = disabled (c .before .before .before .before .before) in
-    (w .has, w .place-is)
+-- and whether the count sent raises it
+raises-is : (r : tie.After-raises)
+    → r .raises .result
+    ≡ countRaises
+    (countOf (slotAt (now (start (r .before .before .before .before .before .before .before .before .before .before) .args .table)) (r .before .before .before .before .before .before .before .before .i .given .0 .0)))
+    (start (r .before .before .before .before .before .before .before .before .before .before) .args .count)
+raises-is r = r .raises .ensures ∙ ap (λ (k : Count). countRaises k (start (r .before .before .before .before .before .before .before .before .before .before) .args .count)) (count-is (r .before))
+
+raises-requires : tie.Need-raises-requires
+raises-requires c κs = search needs
 
 reply-status-requires-3 : tie.Need-reply-status-requires-3
 reply-status-requires-3 c κs = search needs
@@ -105,9 +112,19 @@ same-length-4 c = search needs
 returns-2 : tie.Need-returns-2
 returns-2 c =
     let replied = c .before .before in
-    let at = replied .before .before .before in
-    let d = at .before .before in
-    refused-serves (enable-refused _ (start d .args .h) (start d .args .count) _ (d .slot-under .ensures) _ (at .status .given .1)) (replied .reply-status .ensures)
+    let up = replied .before .before in
+    let compared = up .before in
+    let told = compared .before .before .before .before .before in
+    let d = told .before .before .before .before .before in
+    refused-serves (raised _ _ (start d .args .count) _ (disabled told) (sym (raises-is compared) ∙ up .if1 .taken)) (replied .reply-status3 .ensures)
+
+give-back-requires : tie.Need-give-back-requires
+give-back-requires c κs =
+    let w = disabled (c .before .before .before .before .before .before .before) in
+    (w .has, w .place-is)
+
+reply-status-requires-4 : tie.Need-reply-status-requires-4
+reply-status-requires-4 c κs = search needs
 
 same-length-5 : tie.Need-same-length-5
 same-length-5 c = search needs
@@ -117,12 +134,28 @@ same-length-6 c = search needs
 
 returns-3 : tie.Need-returns-3
 returns-3 c =
+    let replied = c .before .before in
+    let at = replied .before .before .before in
+    let d = at .before .before in
+    refused-serves (enable-refused _ (start d .args .h) (start d .args .count) _ (d .slot-under .ensures) _ (at .status .given .1)) (replied .reply-status .ensures)
+
+same-length-7 : tie.Need-same-length-7
+same-length-7 c = search needs
+
+same-length-8 : tie.Need-same-length-8
+same-length-8 c = search needs
+
+returns-4 : tie.Need-returns-4
+returns-4 c =
     let changed = c .before .before .before .before .before .before in
-    let kept = changed .before .before in
+    let low = changed .before .before in
+    let compared = low .before in
+    let kept = compared .before in
     let read = kept .before in
     let told = read .before .before .before in
     let d = told .before .before .before .before .before in
-    done-serves (returned _ _ (start d .args .count) _ (disabled told)) (changed .give-back .ensures) (c .before .before .reply-status3 .ensures) (return-moves (disabled told) _ (length-is read) _ (count-is kept) _ (start d .args .count))
+    done-serves (returned _ _ (start d .args .count) _ (disabled told) (sym (raises-is compared) ∙ low .if1 .left)) (changed .give-back .ensures) (c .before .before .reply-status4 .ensures)
+    (return-moves (disabled told) _ (length-is read) _ (count-is kept) _ (start d .args .count))
 
 pub enable-spec : {M : Type 1} → statement M
 enable-spec =
@@ -140,11 +173,16 @@ enable-spec =
     slot-at-requires
     word-at-requires
     count-of-requires
-    give-back-requires
+    raises-requires
     reply-status-requires-3
     same-length-3
     same-length-4
     returns-2
+    give-back-requires
+    reply-status-requires-4
     same-length-5
     same-length-6
-    returns-3)
+    returns-3
+    same-length-7
+    same-length-8
+    returns-4)
