@@ -20,10 +20,10 @@ extern "C" {
 #endif
 
 /* The version of the library. */
-#define CAVERNLULL_VERSION_MAJOR 6
-#define CAVERNLULL_VERSION_MINOR 2
+#define CAVERNLULL_VERSION_MAJOR 7
+#define CAVERNLULL_VERSION_MINOR 0
 #define CAVERNLULL_VERSION_PATCH 0
-#define CAVERNLULL_VERSION "6.2.0"
+#define CAVERNLULL_VERSION "7.0.0"
 
 /* Sizes in bytes, and the most slots and hashes (PROFILE 1.3). */
 enum {
@@ -70,7 +70,7 @@ enum {
 
 /* The statuses, in a reply's second byte (PROFILE 4.2). In replies to kinds 3 and 9 the top bit of that byte is the count's
  * (CAVERNLULL_KEPT_IN_REPLY), and the status is the other seven bits. With every status but 0, the table stays as it was. 8 is
- * not used: no card sends it, and the reply reader refuses it. */
+ * not used: no card sends it, and the reply reader refuses it. 9 is for kind 5 alone. */
 enum {
     CAVERNLULL_SUCCESS = 0,
     CAVERNLULL_FIELD_INTEGRITY_VERIFICATION_FAILED = 1,
@@ -79,7 +79,8 @@ enum {
     CAVERNLULL_HANDLE_NOT_FOUND = 4,
     CAVERNLULL_DUPLICATE_HANDLE = 5,
     CAVERNLULL_UNEXPECTED_REQUEST = 6,
-    CAVERNLULL_NOT_ENOUGH_SPACE = 7
+    CAVERNLULL_NOT_ENOUGH_SPACE = 7,
+    CAVERNLULL_COUNT_RAISED = 9 /* the count sent would raise, begin or end that of the lent right */
 };
 
 /* The bit that says that a count is kept (PROFILE 2.6). Where it is 0, none is kept, and the count must be 0. Where it is 1,
@@ -122,11 +123,18 @@ struct cavernlull_tally {
  *   106 CAVERNLULL_TALLY_DIFFERS          `tally` is not the tally of the table, whatever the frame
  *   104 CAVERNLULL_NO_FRAME               the frame has fewer than 4 bytes, or is not 4 plus its body length long
  * Where the card refuses to carry out the request, the call returns 0, with a reply whose status is not 0.
+ *
+ * A return may not add starts (PROFILE 5.5). A Rights Enablement of a disabled record has status 9, CAVERNLULL_COUNT_RAISED,
+ * where exactly one of record and request keeps a count, or where both do and the request's is greater. The right then stays lent,
+ * under the same handle with the same count, and the return can be sent again with another count: one no greater than was lent, or
+ * none where none was. A device that does not know what was lent sends no count and, where that has status 9, a kept count of 0,
+ * with which the right comes back used up. The count that is sent for a record that is enabled already makes no difference.
  */
 uint16_t cavernlull_call(uint8_t *table, size_t table_length, struct cavernlull_tally *tally, size_t start,
                          const uint8_t *frame, size_t frame_length, uint8_t *reply, size_t reply_length);
 
-/* The most that one return can change a count, either way, and the most returns in a total (PROFILE 4.5). */
+/* The most that one return can take off a count, and the most returns in a total (PROFILE 4.5). A total is at most as much for each
+ * of its returns, above or below 0. */
 enum {
     CAVERNLULL_MOST_CHANGE = 65535,
     CAVERNLULL_MOST_RETURNS = 30000
@@ -136,12 +144,13 @@ enum {
  * of what returns did to counts.
  *
  * A return is a Rights Enablement with status 0 of a record that was disabled. Its change is the count sent minus the count that
- * was stored: below 0 where starts were used, above 0 where a device hands back more than it took. It is counted where the record
- * and the request both keep a count, also where the change is 0. Every other call has the change 0 and is not counted. So has a
- * return that is sent again, of a record that is enabled already.
+ * was stored: below 0 where starts were used, and never above 0, since a greater count has status 9 and is no return. It is counted
+ * where the record and the request both keep a count, also where the change is 0. Every other call has the change 0 and is not
+ * counted. So has a return that is sent again, of a record that is enabled already.
  *
  * `total` is the sum of the changes so far, and `returns` says how many counted returns are in it. Both are 0 at first, and are
- * carried from call to call. `change` is only written to: what it held makes no difference.
+ * carried from call to call, so that the total is never above 0. One above 0 from elsewhere is carried on, if it is within the
+ * bounds below. `change` is only written to: what it held makes no difference.
  *
  * Returns this number before everything that the call tests, and then makes no call and changes nothing at all, not even `change`:
  *   108 CAVERNLULL_TOTAL_OUTSIDE          `returns` is 30,000 or more, or `total` is more than 65,535 times `returns` above or
@@ -221,10 +230,10 @@ enum {
  *   9  Rights Information Query      count, kept, payload
  *
  * Otherwise returns this number, and changes neither `key` nor `fields`:
- *   203 CAVERNLULL_NO_REPLY  the frame is not 4 plus its body length long; its version is not 1; its status is over 7; it has a
- *                            body though its status is not 0; its status is 0 and its body is not of its kind's shape (a kind
- *                            outside 1 to 9 has none); the count's bit is set though it is no success of kind 3 or 9; or it
- *                            has a count that is not 0 though that bit is 0
+ *   203 CAVERNLULL_NO_REPLY  the frame is not 4 plus its body length long; its version is not 1; its status is not 0 to 7 or
+ *                            9; it has a body though its status is not 0; its status is 0 and its body is not of its kind's
+ *                            shape (a kind outside 1 to 9 has none); the count's bit is set though it is no success of kind 3
+ *                            or 9; or it has a count that is not 0 though that bit is 0
  */
 uint16_t cavernlull_read_reply(const uint8_t *frame, size_t frame_length, uint8_t *key, uint16_t *fields);
 
