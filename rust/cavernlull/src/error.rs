@@ -72,9 +72,10 @@ pub enum WriteError {
 /// 203: the bytes are not the frame of a reply.
 ///
 /// The frame is not 4 bytes and its body length long, its version is not 1, its
-/// status is over 7, it has a body though its status is not 0, its status is 0
-/// and its body is not of its kind's shape, the count's bit is set though it is
-/// no success of kind 3 or 9, or it has a count that is not 0 without that bit.
+/// status is not 0 to 7 or 9, it has a body though its status is not 0, its
+/// status is 0 and its body is not of its kind's shape, the count's bit is set
+/// though it is no success of kind 3 or 9, or it has a count that is not 0 without
+/// that bit.
 #[derive(Clone, Copy, Debug, PartialEq, Eq, Hash)]
 pub struct ReadError;
 

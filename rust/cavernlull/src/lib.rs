@@ -147,7 +147,8 @@ pub const MOST_HASHES: usize = 8;
 /// The bytes of the longest listing.
 pub const LISTING_ROOM: usize = 406;
 
-/// The most that one return can change a count, either way.
+/// The most that one return can take off a count. A total is at most as much for
+/// each of its returns, above or below 0.
 pub const MOST_CHANGE: i32 = 65_535;
 
 /// The most counted returns in a total.

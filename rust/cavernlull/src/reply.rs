@@ -50,6 +50,8 @@ impl Reply {
     /// let refused = Reply::Refused { kind: 4, status: Status::DuplicateHandle };
     /// assert_eq!(Reply::read(&[0x24, 5, 0, 0]), Ok(refused));
     /// assert_eq!(Reply::read(&[0x24, 5, 0]), Err(ReadError));
+    /// let refused = Reply::Refused { kind: 5, status: Status::CountRaised };
+    /// assert_eq!(Reply::read(&[0x25, 9, 0, 0]), Ok(refused));
     /// ```
     pub fn read(frame: &[u8]) -> Result<Reply, ReadError> {
         let mut key = [0; KEY_BYTES];

@@ -35,12 +35,46 @@ pub enum Request {
         new_handle: Handle,
     },
     /// Kind 5: take the right that is lent under this handle back, for use.
-    /// If the right is for use already, nothing changes.
+    /// If the right is for use already, nothing changes, whatever the count.
+    ///
+    /// A return may not add starts (PROFILE 5.5). With a count that is greater
+    /// than was lent, or where only one of the two counts is kept, it is refused
+    /// with [`CountRaised`](crate::Status::CountRaised). The right stays lent as
+    /// it was, under the same handle, and can be returned with another count:
+    ///
+    /// ```
+    /// # use cavernlull::{AssetHash, Card, Handle, Request, Right, Status, Verdict};
+    /// # let (course, lent) = (Handle([1; 10]), Handle([2; 10]));
+    /// # let hashes = vec![AssetHash([7; 20])];
+    /// # let payload = b"course".to_vec();
+    /// # let right = Right { count: Some(5), hashes, payload, ..Right::default() };
+    /// # let mut card = Card::blank(1);
+    /// # for request in [
+    /// #     Request::InstallationSetup { handle: course, room: 6 },
+    /// #     Request::RightsInstallation { handle: course, right },
+    /// #     Request::RekQuery { handle: course, new_handle: lent },
+    /// # ] {
+    /// #     card.call(&request, Verdict::Held)?;
+    /// # }
+    /// // The course is lent with a kept count of 5.
+    /// let mut give_back = |count| {
+    ///     let request = Request::RightsEnablement { handle: lent, count };
+    ///     card.call(&request, Verdict::Held).map(|reply| reply.status())
+    /// };
+    /// assert_eq!(give_back(Some(6))?, Status::CountRaised);
+    /// assert_eq!(give_back(None)?, Status::CountRaised);
+    /// assert_eq!(give_back(Some(4))?, Status::Success);
+    /// assert_eq!(give_back(Some(6))?, Status::Success, "it is for use already");
+    /// # Ok::<(), cavernlull::Error>(())
+    /// ```
+    ///
+    /// A device that does not know what was lent sends `None`, and where that is
+    /// refused so, `Some(0)`: the right comes back, used up.
     RightsEnablement {
         /// The handle that the right is lent under.
         handle: Handle,
-        /// The count that the right has from now on; `None` where none is
-        /// kept, `Some(0)` where it is used up.
+        /// The count that the right has from then on: no greater than was lent;
+        /// `None` where none is kept, `Some(0)` where it is used up.
         count: Option<u16>,
     },
     /// Kind 6: remove a right, for use or lent.

@@ -24,11 +24,15 @@ pub enum Status {
     UnexpectedRequest = 6,
     /// No slot is empty, or the length is more than there is room for.
     NotEnoughSpace = 7,
+    /// The count returned would raise the one that was lent: it is greater, or
+    /// only one of the two is kept. The right stays lent, and can be
+    /// [returned with another count](crate::Request::RightsEnablement).
+    CountRaised = 9,
 }
 
 impl Status {
     /// All statuses, in the order of their numbers.
-    pub const ALL: [Status; 8] = [
+    pub const ALL: [Status; 9] = [
         Status::Success,
         Status::FieldIntegrityVerificationFailed,
         Status::ParameterFailed,
@@ -37,22 +41,25 @@ impl Status {
         Status::DuplicateHandle,
         Status::UnexpectedRequest,
         Status::NotEnoughSpace,
+        Status::CountRaised,
     ];
 
-    /// The status's number, 0 to 7.
+    /// The status's number, 0 to 7 or 9.
     pub const fn number(self) -> u8 {
         self as u8
     }
 
-    /// The status of this number, if it is 0 to 7. No other number is a
-    /// status: a reply with one is refused ([`ReadError`](crate::ReadError)).
+    /// The status of this number, if it is 0 to 7 or 9. No other number is a
+    /// status, and 8 is none either: a reply with one is refused
+    /// ([`ReadError`](crate::ReadError)).
     ///
     /// ```
     /// use cavernlull::{ReadError, Reply, Status};
     ///
     /// assert_eq!(Status::from_number(7), Some(Status::NotEnoughSpace));
     /// assert_eq!(Status::from_number(8), None);
-    /// assert_eq!(Reply::read(&[0x26, 8, 0, 0]), Err(ReadError));
+    /// assert_eq!(Status::from_number(9), Some(Status::CountRaised));
+    /// assert_eq!(Reply::read(&[0x25, 8, 0, 0]), Err(ReadError));
     /// ```
     pub fn from_number(number: u8) -> Option<Status> {
         Status::ALL
@@ -72,6 +79,7 @@ impl fmt::Display for Status {
             Status::DuplicateHandle => "Duplicate Handle",
             Status::UnexpectedRequest => "Unexpected Request",
             Status::NotEnoughSpace => "Not Enough Space",
+            Status::CountRaised => "Count Raised",
         })
     }
 }

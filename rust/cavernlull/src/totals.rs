@@ -10,12 +10,13 @@ use std::fmt;
 ///
 /// A course is lent with a count of starts and returned with another. The
 /// *change* of a return is the count sent minus the count that was stored: below
-/// 0 where starts were used, above 0 where a device hands back more than it took.
-/// A return is *counted* where the record and the request both keep a count, also
-/// where its change is 0. The total is the sum of the changes.
+/// 0 where starts were used. It is never above 0: a count that is greater than was
+/// lent is refused ([`CountRaised`](crate::Status::CountRaised)), and nothing is
+/// returned. A return is *counted* where the record and the request both keep a
+/// count, also where its change is 0. The total is the sum of the changes.
 ///
 /// ```
-/// use cavernlull::{AssetHash, Card, Handle, Request, Right, Totals, Verdict};
+/// use cavernlull::{AssetHash, Card, Handle, Request, Right, Status, Totals, Verdict};
 ///
 /// let (course, lent) = (Handle([1; 10]), Handle([2; 10]));
 /// let right = Right {
@@ -33,6 +34,12 @@ use std::fmt;
 ///     let totalled = totals.call(&mut card, &request, Verdict::Held)?;
 ///     assert_eq!((totalled.change, totalled.counted), (0, false));
 /// }
+///
+/// // Eleven of ten starts are refused, and change nothing.
+/// let too_many = Request::RightsEnablement { handle: lent, count: Some(11) };
+/// let totalled = totals.call(&mut card, &too_many, Verdict::Held)?;
+/// assert_eq!(totalled.reply.status(), Status::CountRaised);
+/// assert_eq!((totalled.change, totalled.counted), (0, false));
 ///
 /// // Three of the ten starts were used.
 /// let give_back = Request::RightsEnablement { handle: lent, count: Some(7) };
@@ -67,8 +74,8 @@ pub struct Totalled<R = Reply> {
     /// The reply, which is that of the same call without totals.
     pub reply: R,
     /// The change of the call, which was added to the total: the count sent
-    /// minus the count that was stored, −65,535 to 65,535. It is 0 for every
-    /// call that is not counted.
+    /// minus the count that was stored, −65,535 to 0. It is 0 for every call that
+    /// is not counted.
     pub change: i32,
     /// Whether the call is a counted return: one of a record that was lent, where
     /// record and request both keep a count.
@@ -87,9 +94,10 @@ impl Totals {
     /// Totals that are taken up again, from their [`total`](Totals::total) and
     /// their [`returns`](Totals::returns).
     ///
-    /// Any numbers will do. Where the total cannot be the sum of so many
-    /// returns, they do not [hold](Totals::holds): each call is
-    /// [`TotallingError::TotalOutside`], and changes nothing.
+    /// Any numbers will do. Where the total is more than 65,535 for each return,
+    /// above or below 0, they do not [hold](Totals::holds): each call is
+    /// [`TotallingError::TotalOutside`], and changes nothing. A total above 0 that
+    /// holds, from a card of a version before 7.0.0, is carried on.
     ///
     /// ```
     /// use cavernlull::Totals;
@@ -103,7 +111,8 @@ impl Totals {
         Totals { total, returns }
     }
 
-    /// The sum of the changes of all returns that were counted.
+    /// The sum of the changes of all returns that were counted. From 0 and 0 on it
+    /// is never above 0.
     pub const fn total(&self) -> i32 {
         self.total
     }
@@ -207,13 +216,17 @@ impl Totals {
     /// image[1..11].fill(7);
     /// (image[28], image[30], image[192]) = (4, 1, b'!');
     ///
-    /// // It is returned with 6: two more than were lent.
+    /// // It is returned with 6, two more than were lent, and then with 1.
     /// let (mut card, mut totals) = (Card::from(image), Totals::new());
-    /// let give_back = [0x25, 0xC0, 0, 12, 7, 7, 7, 7, 7, 7, 7, 7, 7, 7, 0, 6];
+    /// let mut give_back = [0x25, 0xC0, 0, 12, 7, 7, 7, 7, 7, 7, 7, 7, 7, 7, 0, 6];
     /// let mut buffer = [0; REPLY_ROOM];
     /// let totalled = totals.call_frame(&mut card, &give_back, &mut buffer)?;
-    /// assert_eq!((totalled.reply, totalled.change), (&[0x25, 0, 0, 0][..], 2));
-    /// assert_eq!(totals, Totals::from_parts(2, 1));
+    /// assert_eq!((totalled.reply, totalled.change), (&[0x25, 9, 0, 0][..], 0));
+    /// assert_eq!(totals, Totals::new());
+    /// give_back[15] = 1;
+    /// let totalled = totals.call_frame(&mut card, &give_back, &mut buffer)?;
+    /// assert_eq!((totalled.reply, totalled.change), (&[0x25, 0, 0, 0][..], -3));
+    /// assert_eq!(totals, Totals::from_parts(-3, 1));
     /// # Ok::<(), cavernlull::TotallingError>(())
     /// ```
     pub fn call_frame<'reply, T: AsRef<[u8]> + AsMut<[u8]>>(
