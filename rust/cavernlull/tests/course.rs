@@ -1,7 +1,7 @@
 //! One course on its way through a card: set up, installed, listed, lent,
-//! refused a second time and under a handle in use, returned, removed. After
-//! each step the whole table is compared with bytes written by hand. Then
-//! counts, kept and not, and lists.
+//! refused a second time and under a handle in use, refused with a count that is
+//! raised, returned, removed. After each step the whole table is compared with
+//! bytes written by hand. Then counts, kept and not, and lists.
 
 use cavernlull::{AssetHash, Card, Handle, Key, Kind, Reply, Request, Right, Status, Verdict};
 use cavernlull::{HASH_BYTES, SLOT_BYTES};
@@ -142,9 +142,13 @@ impl<T: AsRef<[u8]> + AsMut<[u8]>> Desk<T> {
         self.list(&[]);
     }
 
-    /// The course comes back; a return that is sent again changes nothing.
+    /// The course comes back, with no more than was lent; a return that is sent
+    /// again changes nothing.
     fn takes_back(&mut self) {
         let handle = BORROWER;
+        for count in [Some(0x0103), Some(u16::MAX), None] {
+            self.refused(give_back(handle, count), Status::CountRaised);
+        }
         let mut right = right();
         right.count = Some(7);
         let returned = [held(ENABLED, BORROWER, &right), reserved(OTHER, 1)];
@@ -272,12 +276,12 @@ fn a_right_without_a_count_keeps_none() {
     desk.lends_whole(BORROWER, COURSE, None);
 }
 
-/// A return sets the count, and whether one is kept, as it says.
+/// A return sets a kept count to what it says, down to 0.
 #[test]
-fn a_return_says_whether_a_count_is_kept() {
+fn a_return_says_what_is_left_of_a_kept_count() {
     let mut desk = counted(Some(u16::MAX));
     let mut last = Some(u16::MAX);
-    for count in [Some(0), None, Some(0), Some(256), None, Some(1)] {
+    for count in [65_534, 256, 255, 255, 1, 0].map(Some) {
         desk.lends_whole(COURSE, BORROWER, last);
         desk.returns(BORROWER, count);
         desk.lends_whole(BORROWER, COURSE, count);

@@ -59,7 +59,7 @@ fn kinds_and_statuses_are_those_of_the_header() {
         assert_eq!(Status::from_number(status.number()), Some(status));
     }
     assert_eq!(Kind::from_number(0).or(Kind::from_number(10)), None);
-    assert_eq!(Status::from_number(8).or(Status::from_number(9)), None);
+    assert_eq!(Status::from_number(8).or(Status::from_number(10)), None);
     assert!(!constants.contains_key("TWO_RECORDS"));
 }
 

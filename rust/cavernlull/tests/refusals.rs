@@ -334,7 +334,8 @@ fn the_reader_refuses_what_is_no_reply() {
         &[0x44, 5, 0, 0],
         &[0x24, 8, 0, 0],
         &[0x2A, 8, 0, 0],
-        &[0x24, 9, 0, 0],
+        &[0x24, 10, 0, 0],
+        &[0x25, 9, 0, 1, 0],
         &[0x24, 0, 0, 0],
         &[0x2A, 0, 0, 0],
         &[0x21, 0, 0, 1, 0],
@@ -344,6 +345,23 @@ fn the_reader_refuses_what_is_no_reply() {
     }
     let unknown = Reply::read(&[0x3F, 3, 0, 0]).unwrap();
     assert_eq!((unknown.kind_number(), unknown.status().number()), (31, 3));
+}
+
+/// A refusal has an empty body and one of the statuses that there are, whatever
+/// its kind; 8 is none of them (PROFILE 6.3).
+#[test]
+fn the_reader_takes_every_status_for_every_kind() {
+    for kind in 0..32 {
+        for number in 1..128 {
+            let expected = match Status::from_number(number) {
+                Some(status) => Ok(Reply::Refused { kind, status }),
+                None => Err(ReadError),
+            };
+            assert_eq!(expected.is_ok(), number <= 7 || number == 9);
+            let frame = [0x20 | kind, number, 0, 0];
+            assert_eq!(Reply::read(&frame), expected, "{frame:02x?}");
+        }
+    }
 }
 
 /// The count's bit is for the successes of kinds 3 and 9 alone, and a count

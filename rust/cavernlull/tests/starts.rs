@@ -148,7 +148,7 @@ fn nothing_but_a_setup_depends_on_the_start() {
     let (reserved, enabled, disabled) = (name(1), name(2), name(4));
     let (handle, new_handle) = (enabled, COURSE);
     let right = right(vec![7; 9]);
-    let (limit, hashes, count) = (0, vec![], Some(5));
+    let (limit, hashes, count) = (0, vec![], None);
     for request in [
         setup(enabled),
         Request::RightsInstallation {

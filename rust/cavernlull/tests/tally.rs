@@ -46,7 +46,10 @@ fn retrieve(handle: Handle, new_handle: Handle) -> Request {
 }
 
 fn give_back(handle: Handle) -> Request {
-    let count = Some(8);
+    give_back_with(handle, Some(8))
+}
+
+fn give_back_with(handle: Handle, count: Option<u16>) -> Request {
     Request::RightsEnablement { handle, count }
 }
 
@@ -151,20 +154,18 @@ const A: [u8; 20] = [
 ];
 const P5: [u8; 5] = [0xA1, 0xA2, 0xA3, 0xA4, 0xA5];
 
-/// The rows of case 20 of the card profile (PROFILE 9.5) up to the second
-/// return, by their bytes.
-fn case_20() -> [Case; 5] {
+/// A setup, an installation with this second byte and this count, and a lending,
+/// as cases 9 and 11 of the card profile (PROFILE 9.1) have them.
+fn lending_with(second: u8, count: u8) -> [Case; 3] {
     let setup = [&[0x21, 0x80, 0, 0x0C][..], &H1, &[0, 5]].concat();
-    let installation = [&[0x22, 0x80, 0, 0x36][..], &H1, &K, &[0, 0, 0x10], &A, &P5].concat();
+    let fields = [&H1[..], &K, &[0, count, 0x10], &A, &P5].concat();
+    let installation = [&[0x22, second, 0, 0x36][..], &fields].concat();
     let lending = [&[0x24, 0x80, 0, 0x14][..], &H1, &H2].concat();
     let key = [&[0x24, 0, 0, 0x10][..], &K].concat();
-    let returned = |count| [&[0x25, 0xC0, 0, 0x0C][..], &H2, &[0, count]].concat();
     [
         (setup, vec![0x21, 0, 0, 0], [0, 1, 0, 0, 0]),
         (installation, vec![0x22, 0, 0, 0], [0, 0, 1, 0, 5]),
         (lending, key, [0, 0, 0, 1, 5]),
-        (returned(3), vec![0x25, 0, 0, 0], [0, 0, 1, 0, 5]),
-        (returned(4), vec![0x25, 0, 0, 0], [0, 0, 1, 0, 5]),
     ]
 }
 
@@ -178,16 +179,20 @@ fn assert_answers(card: &mut Card, cases: &[Case]) {
     }
 }
 
+/// Case 20 of the card profile (PROFILE 9.5). The right of case 9, which keeps no
+/// count, is removed; that of case 11, with a kept count of 7, is returned.
 #[test]
 fn case_20_by_its_bytes() {
-    let mut card = Card::blank(1);
-    let (lent, returned) = (&case_20()[..3], &case_20()[3..]);
-    assert_answers(&mut card, lent);
+    let (mut after_9, mut lent_11) = (Card::blank(1), Card::blank(1));
+    assert_answers(&mut after_9, &lending_with(0x80, 0));
     let removal = [&[0x26, 0x80, 0, 0x0A][..], &H2].concat();
     let removed = (removal, vec![0x26, 0, 0, 0], [1, 0, 0, 0, 0]);
-    assert_answers(&mut card.clone(), &[removed]);
-    assert_tally(&card, [0, 0, 0, 1, 5], "what its clone did");
-    assert_answers(&mut card, returned);
+    assert_answers(&mut after_9.clone(), &[removed]);
+    assert_tally(&after_9, [0, 0, 0, 1, 5], "what its clone did");
+    assert_answers(&mut lent_11, &lending_with(0xC0, 7));
+    let back = |count| [&[0x25, 0xC0, 0, 0x0C][..], &H2, &[0, count]].concat();
+    let returned = |count| (back(count), vec![0x25, 0, 0, 0], [0, 0, 1, 0, 5]);
+    assert_answers(&mut lent_11, &[returned(3), returned(4)]);
 }
 
 /// The sum of the payloads of the fullest card has its highest bit set.
@@ -266,6 +271,8 @@ fn a_refused_request_changes_no_number() {
         (retrieve(OTHER, THIRD), DuplicateHandle),
         (lend(BORROWER, COURSE), UnexpectedRequest),
         (give_back(THIRD), UnexpectedRequest),
+        (give_back_with(BORROWER, None), CountRaised),
+        (give_back_with(BORROWER, Some(10)), CountRaised),
         (remove(THIRD), UnexpectedRequest),
         (remove(COURSE), HandleNotFound),
         (give_up(OTHER), UnexpectedRequest),

@@ -26,23 +26,24 @@ fn frame(request: Request) -> Vec<u8> {
 #[test]
 fn case_25_of_the_card_profile() {
     let lent_16 = walked(Some(1));
-    let (after_9, mut after_11) = (walked(None), walked(None));
+    let (after_9, mut after_11) = (walked(None), walked(Some(7)));
     answered(&mut after_11, &give_back(Some(3)));
     let last = (-1_965_984_465, 29_999);
-    for (card, sent, before, after, change) in [
-        (&lent_16, Some(0), (0, 0), (-1, 1), -1),
-        (&lent_16, Some(4), (-1, 1), (2, 2), 3),
-        (&lent_16, Some(1), (2, 2), (2, 3), 0),
-        (&lent_16, None, (2, 3), (2, 3), 0),
-        (&after_9, Some(3), (2, 3), (2, 3), 0),
-        (&after_11, Some(4), (2, 3), (2, 3), 0),
-        (&lent_16, Some(0), last, (-1_965_984_466, 30_000), -1),
+    for (card, sent, status, before, after, change) in [
+        (&lent_16, Some(0), 0, (0, 0), (-1, 1), -1),
+        (&lent_16, Some(4), 9, (-1, 1), (-1, 1), 0),
+        (&lent_16, Some(1), 0, (-1, 1), (-1, 2), 0),
+        (&lent_16, None, 9, (-1, 2), (-1, 2), 0),
+        (&after_9, Some(3), 9, (-1, 2), (-1, 2), 0),
+        (&after_9, None, 0, (-1, 2), (-1, 2), 0),
+        (&after_11, Some(4), 0, (-1, 2), (-1, 2), 0),
+        (&lent_16, Some(0), 0, last, (-1_965_984_466, 30_000), -1),
     ] {
         let (mut card, mut totals) = (card.clone(), Totals::from_parts(before.0, before.1));
         let mut buffer = [0; REPLY_ROOM];
         let totalled = totals.call_frame(&mut card, &give_back(sent), &mut buffer);
         let expected = Totalled {
-            reply: &[0x25, 0, 0, 0][..],
+            reply: &[0x25, status, 0, 0][..],
             change,
             counted: before.1 != after.1,
         };
@@ -84,11 +85,12 @@ const COUNTS: [u16; 11] = [
     0, 1, 2, 255, 256, 32_766, 32_767, 32_768, 32_769, 65_534, 65_535,
 ];
 
-/// The change is the count sent minus the count stored, whatever the two are; a
-/// return with the count that was lent is counted too.
+/// The change is the count sent minus the count stored, where that is no greater;
+/// a return with the count that was lent is counted too.
 #[test]
 fn a_return_with_two_kept_counts_is_counted() {
-    for (stored, sent) in COUNTS.iter().flat_map(|a| COUNTS.map(|b| (*a, b))) {
+    let pairs = COUNTS.iter().flat_map(|a| COUNTS.map(|b| (*a, b)));
+    for (stored, sent) in pairs.filter(|(stored, sent)| sent <= stored) {
         let change = i32::from(sent) - i32::from(stored);
         let give_back = give_back(Some(sent));
         for totals in [Totals::new(), some()] {
@@ -99,26 +101,22 @@ fn a_return_with_two_kept_counts_is_counted() {
 
 /// Both ends of what a return can change.
 #[test]
-fn the_largest_changes_are_65535_either_way() {
+fn a_return_takes_0_to_65535_off() {
     let (least, most) = (give_back(Some(0)), give_back(Some(65_535)));
-    let (mut full, mut used_up) = (lent(Some(65_535)), lent(Some(0)));
-    let down = assert_counted(&mut full, made(&least), Totals::new(), -MOST_CHANGE);
+    let full = || lent(Some(65_535));
+    let down = assert_counted(&mut full(), made(&least), Totals::new(), -MOST_CHANGE);
     assert_eq!(down, Totals::from_parts(-65_535, 1));
-    let up = assert_counted(&mut used_up, made(&most), Totals::new(), MOST_CHANGE);
-    assert_eq!(up, Totals::from_parts(65_535, 1));
+    let same = assert_counted(&mut full(), made(&most), Totals::new(), 0);
+    assert_eq!(same, Totals::from_parts(0, 1));
 }
 
-/// A count that begins or ends with the return cannot be subtracted. The return
-/// is a success, and stores what was sent.
+/// Where no count is kept, there is nothing to subtract: the return is a success,
+/// and not counted.
 #[test]
-fn a_return_without_two_kept_counts_is_not_counted() {
-    for count in COUNTS {
-        for (stored, sent) in [(Some(count), None), (None, Some(count)), (None, None)] {
-            let mut card = lent(stored);
-            assert_not_counted(&mut card, made(&give_back(sent)), some(), 0);
-            assert!(card.table() == record(ENABLED, 2, sent), "{stored:?}");
-        }
-    }
+fn a_return_without_counts_is_not_counted() {
+    let mut card = lent(None);
+    assert_not_counted(&mut card, made(&give_back(None)), some(), 0);
+    assert!(card.table() == record(ENABLED, 2, None));
 }
 
 /// A device that lost the reply sends its return again: the record is enabled
@@ -158,9 +156,9 @@ fn a_return_is_that_of_the_record_under_its_handle() {
     }
     let zeros = Request::RightsEnablement {
         handle: Handle([0; 10]),
-        count: Some(101),
+        count: Some(99),
     };
-    assert_counted(&mut card, made(&frame(zeros)), some(), 1);
+    assert_counted(&mut card, made(&frame(zeros)), some(), -1);
 }
 
 /// Requests of every kind but the return, about a right that is lent under `02`,
@@ -241,6 +239,8 @@ fn no_refused_return_is_counted() {
         (2, long),
         (4, with(4, 9)),
         (6, reserved),
+        (9, give_back(Some(10))),
+        (9, give_back(None)),
     ] {
         let mut buffer = [0; REPLY_ROOM];
         let reply = busy().call_frame(&frame, &mut buffer).unwrap().to_vec();
@@ -305,14 +305,14 @@ fn a_call_with_a_request_gives_the_reply_and_its_change() {
 #[test]
 fn totals_go_on_over_many_cards() {
     let mut totals = Totals::new();
-    for (stored, sent) in [(10, 7), (5, 5), (0, 4), (65_535, 0)] {
+    for (stored, sent) in [(10, 7), (5, 5), (4, 0), (65_535, 0)] {
         let before = totals;
         let change = i32::from(sent) - i32::from(stored);
         totals = Totals::from_parts(before.total(), before.returns());
         let give_back = give_back(Some(sent));
         totals = assert_counted(&mut lent(Some(stored)), made(&give_back), totals, change);
     }
-    assert_eq!((totals.total(), totals.returns()), (1 - 65_535, 4));
+    assert_eq!((totals.total(), totals.returns()), (-7 - 65_535, 4));
 }
 
 /// A card that is used in rotation has its returns totalled too: the start moves

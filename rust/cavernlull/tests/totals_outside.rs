@@ -54,13 +54,11 @@ fn room(made: Made<'_>, room: usize) -> Made<'_> {
     Made { room, ..made }
 }
 
-/// Asserts that a counted return with this change is added.
+/// Asserts that a counted return with this change, which is not above 0, is added.
 fn assert_within(totals: Totals, change: i32) -> Totals {
     assert!(totals.holds(), "{totals}");
-    let stored = if change < 0 { -change } else { 0 };
-    let sent = stored + change;
-    let [stored, sent] = [stored, sent].map(|count| Some(count as u16));
-    assert_counted(&mut lent(stored), made(&give_back(sent)), totals, change)
+    let mut card = lent(Some(-change as u16));
+    assert_counted(&mut card, made(&give_back(Some(0))), totals, change)
 }
 
 #[test]
@@ -81,7 +79,7 @@ fn below_30000_returns_a_total_holds_up_to_65535_for_each() {
         for total in [-most, most, 0, most / 2] {
             let totals = Totals::from_parts(total, returns);
             assert!(!totals.is_full());
-            for change in [0, 1, -1, MOST_CHANGE, -MOST_CHANGE] {
+            for change in [0, -1, -MOST_CHANGE] {
                 assert_within(totals, change);
             }
         }
@@ -105,14 +103,14 @@ fn case_26_of_the_card_profile() {
 }
 
 /// What fits stays so: the last return is counted, and after it the totals are
-/// full, whichever way all returns went.
+/// full, also where the total that was taken up is above 0.
 #[test]
 fn the_last_return_has_room_and_fills_the_total() {
     for (total, change, last) in [
         (-most(29_999), -MOST_CHANGE, -1_966_050_000),
-        (most(29_999), MOST_CHANGE, 1_966_050_000),
+        (most(29_999), -MOST_CHANGE, 1_965_918_930),
+        (most(29_999), 0, 1_965_984_465),
         (0, 0, 0),
-        (-most(29_999), MOST_CHANGE, -1_965_918_930),
     ] {
         let totals = assert_within(Totals::from_parts(total, 29_999), change);
         assert_eq!(totals, Totals::from_parts(last, MOST_RETURNS));
@@ -125,18 +123,19 @@ fn the_last_return_has_room_and_fills_the_total() {
 /// not before.
 #[test]
 fn totals_from_the_beginning_fill_after_30000_returns() {
-    let (mut totals, frame) = (Totals::new(), give_back(Some(65_535)));
-    let (lent, mut buffer) = (lent(Some(0)), [0; REPLY_ROOM]);
+    let (mut totals, frame) = (Totals::new(), give_back(Some(0)));
+    let (lent, mut buffer) = (lent(Some(65_535)), [0; REPLY_ROOM]);
     for returned in 0..MOST_RETURNS {
         assert_eq!((totals.returns(), totals.is_full()), (returned, false));
         let totalled = totals.call_frame(&mut lent.clone(), &frame, &mut buffer);
-        assert_eq!(totalled.unwrap().change, MOST_CHANGE);
+        assert_eq!(totalled.unwrap().change, -MOST_CHANGE);
     }
-    assert_eq!(totals, Totals::from_parts(1_966_050_000, MOST_RETURNS));
+    assert_eq!(totals, Totals::from_parts(-1_966_050_000, MOST_RETURNS));
     assert_outside(totals);
 }
 
-/// A call that is not counted leaves room, however often it is made.
+/// A call that is not counted leaves room, however often it is made: a return
+/// without a count, one whose count is raised, and one that is no frame.
 #[test]
 fn calls_that_are_not_counted_take_no_room() {
     let totals = Totals::from_parts(-most(29_999), 29_999);

@@ -17,6 +17,19 @@ type Told = (bool, Option<u16>);
 struct Ledger(BTreeMap<Handle, Told>);
 
 impl Ledger {
+    /// Whether a request returns a right that is lent, with a count that raises
+    /// the one it has (PROFILE 5.5).
+    fn raises(&self, request: &Request) -> bool {
+        let (handle, sent) = match request {
+            Request::RightsEnablement { handle, count } => (handle, *count),
+            _ => return false,
+        };
+        match self.0.get(handle) {
+            Some((true, stored)) => sent.is_some() != stored.is_some() || sent > *stored,
+            _ => false,
+        }
+    }
+
     /// Takes down a request that was a success. Gives its change, if it is a
     /// counted return.
     fn take_down(&mut self, request: &Request) -> Option<i32> {
@@ -73,8 +86,9 @@ fn any_request(rng: &mut Rng, slots: usize) -> Request {
 }
 
 /// Makes one totalling call and the same call on a copy, and asserts that they
-/// agree, and that change and totals are those that the ledger tells. Gives the
-/// change, if the call is a counted return.
+/// agree, that status 9 comes where the ledger tells a count that rises, and that
+/// change and totals are those that it tells. Gives the change, if the call is a
+/// counted return.
 fn one_call(
     card: &mut Card,
     ledger: &mut Ledger,
@@ -86,6 +100,8 @@ fn one_call(
     let totalled = totals.call(card, request, Verdict::Held).unwrap();
     assert!(totalled.reply == reply && card.table() == plain.table());
     assert_eq!(card.tally(), plain.tally());
+    let raised = reply.status() == Status::CountRaised;
+    assert_eq!(raised, ledger.raises(request), "{request:?}");
     let told = match reply.status() {
         Status::Success => ledger.take_down(request),
         _ => None,
@@ -102,15 +118,18 @@ fn one_call(
 #[test]
 fn requests_and_statuses_tell_every_change() {
     let mut rng = Rng::announced("totals_random");
-    let (mut totals, mut met) = (Totals::new(), BTreeSet::new());
+    let (mut totals, mut met, mut raised) = (Totals::new(), BTreeSet::new(), 0);
     for slots in 1..=MOST_SLOTS {
         let (mut card, mut ledger) = (Card::blank(slots), Ledger::default());
         for _ in 0..CALLS {
             let request = any_request(&mut rng, slots);
+            raised += usize::from(ledger.raises(&request));
             let told = one_call(&mut card, &mut ledger, &mut totals, &request);
             met.insert(told.map(i32::signum));
+            assert!(totals.total() <= 0, "{request:?}");
         }
     }
-    let all = [None, Some(-1), Some(0), Some(1)];
+    let all = [None, Some(-1), Some(0)];
     assert!(met.iter().copied().eq(all), "{met:?}");
+    assert!(raised > 0, "no return raises a count");
 }

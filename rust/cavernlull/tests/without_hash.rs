@@ -242,11 +242,12 @@ fn such_a_right_is_lent_and_returned() {
         assert_eq!(reply, Reply::Key(old_right(count).key));
         desk.finds(&[], &[OTHER]);
 
-        let returned = slot(ENABLED, BORROWER, &old_right(Some(6)));
-        let reply = desk.change(give_back(BORROWER, Some(6)), 0, returned, [0, 0, 2, 1, 21]);
+        let left = count.map(|uses| uses.saturating_sub(1));
+        let returned = slot(ENABLED, BORROWER, &old_right(left));
+        let reply = desk.change(give_back(BORROWER, left), 0, returned, [0, 0, 2, 1, 21]);
         assert_eq!(reply, Reply::Done(Kind::RightsEnablement));
         desk.finds(&[], &[BORROWER, OTHER]);
-        desk.reads(BORROWER, Some(6));
+        desk.reads(BORROWER, left);
     }
 }
 
