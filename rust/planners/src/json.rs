@@ -11,8 +11,8 @@
 //! | `handle`, `name` | the handle in hex, and as letters where it is printable; else null |
 //! | `new_handle`, `new_name` | the handle under which a course is lent, in the same way |
 //! | `number`, `status`, `outcome` | the archive's number; the status, or null without a reply; either in words |
-//! | `return` | null unless it is a Rights Enablement with a reply; else `"counted"`, `"sent again"`, `"no count sent"`, `"no count stored"` or `"refused"` |
-//! | `change`, `counted` | what the call did to the count; true where it is counted |
+//! | `return` | null unless it is a Rights Enablement with a reply; else `"counted"`, `"sent again"`, `"no count"`, `"count raised"` (status 9) or `"refused"` (another status) |
+//! | `change`, `counted` | what the call did to the count, which is never above 0; true where it is counted |
 //! | `total`, `returns` | the totals after the call |
 //!
 //! Every period ends with a line:
@@ -23,10 +23,10 @@
 //! | `period`, `calls` | the period, and how many calls it has |
 //! | `from_total`, `from_returns` | the totals at its beginning |
 //! | `used`, `used_returns` | starts used, and in how many returns |
-//! | `handed_back`, `handed_back_returns` | starts handed back beyond what was lent, and in how many returns |
 //! | `unchanged_returns` | counted returns with a change of 0 |
-//! | `sent_again`, `no_count_sent`, `no_count_stored` | returns that are not counted |
-//! | `refused`, `no_reply` | returns that the card refused; calls without a reply |
+//! | `sent_again`, `no_count` | returns that are not counted |
+//! | `count_raised`, `refused` | returns that the card refused with status 9, and those that it refused with another |
+//! | `no_reply` | calls without a reply |
 //! | `total`, `returns`, `full` | the totals at its end; true where they are full |
 
 use crate::row::{name, Entry, Returned, Row};
@@ -77,12 +77,10 @@ fn summary(period: &Summary) -> String {
         .plain("from_returns", period.from.returns())
         .plain("used", period.used.starts)
         .plain("used_returns", period.used.returns)
-        .plain("handed_back", period.handed_back.starts)
-        .plain("handed_back_returns", period.handed_back.returns)
         .plain("unchanged_returns", period.unchanged)
         .plain("sent_again", period.again)
-        .plain("no_count_sent", period.none_sent)
-        .plain("no_count_stored", period.none_stored)
+        .plain("no_count", period.no_count)
+        .plain("count_raised", period.raised)
         .plain("refused", period.refused)
         .plain("no_reply", period.no_reply)
         .plain("total", period.totals.total())

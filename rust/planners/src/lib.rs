@@ -14,6 +14,17 @@
 //! lines ([`json`]), for a spreadsheet. Neither has anything of a key, of a
 //! payload or of a hash in it.
 //!
+//! A return that would raise a count has status 9, Count Raised (PROFILE 5.5): it
+//! hands back more starts than were lent, or begins or ends a count. Nothing is
+//! returned and nothing is counted then; the course stays lent until it is returned
+//! with another count. So no change is above 0, and the report says how many
+//! returns were refused so.
+//!
+//! Cards of versions before 7.0.0 took such returns. In a recording of such a card
+//! they are refused here all the same, since a recording has the requests and not
+//! the replies; what the report says of the course after that is not what that
+//! card did. The program of version 6.2.0 reports such a recording as it was.
+//!
 //! A total has room for 30,000 returns. After these the *period* ends: the report
 //! gives its summary and goes on with a new period, which begins with 0 and 0.
 //! Each period is noted by itself; their totals may be added up where there is

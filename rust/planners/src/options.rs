@@ -23,6 +23,9 @@ where it is `-`, standard input is read.
   --returns N   the returns of the same report; the two go together
   --help        this page
 
+A return that would raise a count is refused with Count Raised: nothing is returned,
+and nothing is counted.
+
 After 30,000 returns the total is full: the report gives a summary and goes on with
 a new period, from total 0 in 0 returns.
 

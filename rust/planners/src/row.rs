@@ -84,12 +84,12 @@ pub enum Returned {
     Counted,
     /// The course was for use already: nothing changed.
     Again,
-    /// The course is back, but the request keeps no count.
-    NoneSent,
-    /// The course is back, and the request keeps a count, but the record kept
-    /// none.
-    NoneStored,
-    /// The course is not back: the card refused the request.
+    /// The course is back; neither record nor request keeps a count.
+    NoCount,
+    /// The course is not back: the count sent would raise the one that was lent,
+    /// and the card refused it with status 9 (PROFILE 5.5).
+    Raised,
+    /// The course is not back: the card refused the request with another status.
     Refused,
 }
 
@@ -99,8 +99,8 @@ impl fmt::Display for Returned {
         f.write_str(match self {
             Returned::Counted => "counted",
             Returned::Again => "sent again",
-            Returned::NoneSent => "no count sent",
-            Returned::NoneStored => "no count stored",
+            Returned::NoCount => "no count",
+            Returned::Raised => "count raised",
             Returned::Refused => "refused",
         })
     }

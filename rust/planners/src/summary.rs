@@ -22,9 +22,8 @@ impl Part {
 /// A period: the calls from a total that was taken up, or from 0 and 0, until the
 /// total is full or the recording ends.
 ///
-/// The total is that of the beginning, less what was used, and what was handed
-/// back added. The returns are those of the beginning and those that were used,
-/// handed back or unchanged.
+/// The total is that of the beginning, less what was used. The returns are those
+/// of the beginning, those in which starts were used, and those unchanged.
 #[derive(Clone, Copy, Debug, PartialEq, Eq)]
 pub struct Summary {
     /// The period, counted from 1.
@@ -37,17 +36,16 @@ pub struct Summary {
     pub calls: usize,
     /// Starts that were used: the changes below 0.
     pub used: Part,
-    /// Starts that were handed back beyond what was lent: the changes above 0.
-    pub handed_back: Part,
     /// Counted returns with a change of 0.
     pub unchanged: usize,
     /// Returns of courses that were for use already.
     pub again: usize,
-    /// Returns of requests that keep no count.
-    pub none_sent: usize,
-    /// Returns of records that kept no count.
-    pub none_stored: usize,
-    /// Returns that the card refused.
+    /// Returns of courses that keep no count.
+    pub no_count: usize,
+    /// Returns that the card refused with status 9, since they would have raised
+    /// a count.
+    pub raised: usize,
+    /// Returns that the card refused with another status.
     pub refused: usize,
     /// Calls without a reply.
     pub no_reply: usize,
@@ -62,11 +60,10 @@ impl Summary {
             totals: from,
             calls: 0,
             used: Part::default(),
-            handed_back: Part::default(),
             unchanged: 0,
             again: 0,
-            none_sent: 0,
-            none_stored: 0,
+            no_count: 0,
+            raised: 0,
             refused: 0,
             no_reply: 0,
         }
@@ -78,14 +75,11 @@ impl Summary {
         self.totals = entry.totals;
         self.no_reply += usize::from(entry.outcome.status().is_none());
         match entry.returned {
-            Some(Returned::Counted) => match entry.change {
-                change if change < 0 => self.used.add(change),
-                0 => self.unchanged += 1,
-                change => self.handed_back.add(change),
-            },
+            Some(Returned::Counted) if entry.change == 0 => self.unchanged += 1,
+            Some(Returned::Counted) => self.used.add(entry.change),
             Some(Returned::Again) => self.again += 1,
-            Some(Returned::NoneSent) => self.none_sent += 1,
-            Some(Returned::NoneStored) => self.none_stored += 1,
+            Some(Returned::NoCount) => self.no_count += 1,
+            Some(Returned::Raised) => self.raised += 1,
             Some(Returned::Refused) => self.refused += 1,
             None => {}
         }

@@ -7,9 +7,6 @@ use crate::summary::Summary;
 use cavernlull::{Card, Kind, Reply, Status, Tally, Totalled, TotallingError, Totals};
 use cavernlull::{MOST_CHANGE, MOST_RETURNS, REPLY_ROOM};
 
-/// Bit 6 of a request's second byte: a count is kept (PROFILE 3.1).
-const KEPT: u8 = 0x40;
-
 /// The rows of a report: one for each call, and a summary at the end of each
 /// period. Where the totals have no room for another return, a new period begins
 /// before the next call.
@@ -81,7 +78,7 @@ impl Walk {
         let returned = given
             .ok()
             .filter(|_| kind_bits(frame) == Kind::RightsEnablement.number())
-            .map(|totalled| returned(frame, &totalled, lent != self.card.tally().disabled));
+            .map(|totalled| returned(&totalled, lent != self.card.tally().disabled));
         self.calls += 1;
         let [handle, new_handle] = given.map_or([None, None], |_| handles_in(frame));
         let entry = Entry {
@@ -116,12 +113,12 @@ fn status(reply: &[u8]) -> Status {
 
 /// What became of a Rights Enablement that has a reply. It takes one from the
 /// lent rights exactly where the course was lent.
-fn returned(frame: &[u8], totalled: &Totalled<&[u8]>, was_lent: bool) -> Returned {
+fn returned(totalled: &Totalled<&[u8]>, was_lent: bool) -> Returned {
     match status(totalled.reply) {
         Status::Success if totalled.counted => Returned::Counted,
-        Status::Success if !was_lent => Returned::Again,
-        Status::Success if frame[1] & KEPT == 0 => Returned::NoneSent,
-        Status::Success => Returned::NoneStored,
+        Status::Success if was_lent => Returned::NoCount,
+        Status::Success => Returned::Again,
+        Status::CountRaised => Returned::Raised,
         _ => Returned::Refused,
     }
 }

@@ -61,19 +61,16 @@ fn said_of_return(entry: &Entry, returned: Returned) -> String {
     match returned {
         Returned::Counted => format!("{course} is back, {}; {}", did(entry.change), entry.totals),
         Returned::Again => format!("{course} is back already: not counted"),
-        Returned::NoneSent => format!("{course} is back without a count: not counted"),
-        Returned::NoneStored => format!("{course} is back, and kept no count before: not counted"),
-        Returned::Refused => format!("{course} is not back: {}", entry.outcome),
+        Returned::NoCount => format!("{course} is back without a count: not counted"),
+        Returned::Raised | Returned::Refused => format!("{course} is not back: {}", entry.outcome),
     }
 }
 
-/// What a counted return did to the count.
+/// What a counted return did to the count, which it does not raise.
 fn did(change: i32) -> String {
-    let starts = many(change.unsigned_abs() as usize, "start");
-    match change {
+    match change.unsigned_abs() {
         0 => "no start used".to_owned(),
-        change if change < 0 => format!("{starts} used"),
-        _ => format!("{starts} more than lent"),
+        used => format!("{} used", many(used as usize, "start")),
     }
 }
 
@@ -87,14 +84,17 @@ fn summary(period: &Summary) -> String {
     if period.from != Totals::new() {
         text += &format!("  taken up     {}\n", period.from);
     }
-    text += &part("used       ", "", &period.used);
-    text += &part("handed back", " more than lent", &period.handed_back);
+    text += &used(&period.used);
     text += &format!("  unchanged    {}\n", many(period.unchanged, "return"));
     text += &format!(
-        "  not counted  {} back already, {} without a count, {} that kept none before\n",
-        period.again, period.none_sent, period.none_stored
+        "  not counted  {} back already, {} without a count\n",
+        period.again, period.no_count
     );
-    text += &format!("  refused      {}\n", many(period.refused, "return"));
+    let raised = many(period.raised, "return");
+    text += &format!(
+        "  refused      {raised} with Count Raised, {} with another status\n",
+        period.refused
+    );
     text += &format!("  no reply     {}\n", many(period.no_reply, "call"));
     text += &format!("  {}\n", period.totals);
     if period.totals.is_full() {
@@ -104,11 +104,11 @@ fn summary(period: &Summary) -> String {
     text
 }
 
-/// A line with starts, and the returns that they were in.
-fn part(label: &str, more: &str, part: &Part) -> String {
+/// The line of the starts that were used, and of the returns that they were in.
+fn used(part: &Part) -> String {
     let starts = many(part.starts as usize, "start");
     format!(
-        "  {label}  {starts}{more}, in {}\n",
+        "  used         {starts}, in {}\n",
         many(part.returns, "return")
     )
 }

@@ -109,7 +109,7 @@ fn a_total_is_taken_up() {
     let report = printed(&options, b"");
     assert!(report.contains("taken up     total -40 in 29999 returns"));
     assert!(report.contains("total -43 in 30000 returns\n  The total is full"));
-    assert!(report.ends_with("total +2 in 3 returns\n"), "{report}");
+    assert!(report.ends_with("total -5 in 3 returns\n"), "{report}");
     for (total, returns) in [("1", "0"), ("65536", "1"), ("0", "30001")] {
         let options = ["--returns", returns, "--total", total];
         assert_mistaken(&options, b"", "total ");

@@ -46,34 +46,37 @@ fn no_key_no_hash_and_no_payload_is_reported() {
 #[test]
 fn words_have_returns_and_what_has_no_reply() {
     let text = week(Form::Words);
-    assert_eq!(text.matches("call ").count(), 9);
-    assert_eq!(text.matches(" is back").count(), 7);
+    assert_eq!(text.matches("call ").count(), 11);
+    assert_eq!(text.matches(" is back").count(), 6);
+    assert_eq!(text.matches(" is not back: Count Raised\n").count(), 3);
     assert!(!text.contains("Setup"), "{text}");
-    assert!(text.ends_with("\n  total -1 in 4 returns\n"), "{text}");
+    assert!(text.ends_with("\n  total -8 in 4 returns\n"), "{text}");
 }
 
 /// One start and one return are not many.
 #[test]
 fn words_are_singular_and_plural() {
-    let sent = [Some(8), Some(10), Some(9)];
+    let sent = [Some(8), Some(10), Some(9), None, Some(7)];
     let lines = (0x41..)
         .zip(sent)
         .map(|(under, count)| give_back(under, count));
     let text: String = lines.collect();
-    let report = report(&text, lent(&[Some(9); 3]), Totals::new(), Form::Words);
+    let counts = [Some(9), Some(9), Some(9), None];
+    let report = report(&text, lent(&counts), Totals::new(), Form::Words);
     let expected = "\
 call 1, line 1: AAAAAAAAAA is back, 1 start used; total -1 in 1 return
-call 2, line 2: BBBBBBBBBB is back, 1 start more than lent; total 0 in 2 returns
-call 3, line 3: CCCCCCCCCC is back, no start used; total 0 in 3 returns
+call 2, line 2: BBBBBBBBBB is not back: Count Raised
+call 3, line 3: CCCCCCCCCC is back, no start used; total -1 in 2 returns
+call 4, line 4: DDDDDDDDDD is back without a count: not counted
+call 5, line 5: EEEEEEEEEE is not back: Handle Not Found
 
-Period 1, 3 calls
+Period 1, 5 calls
   used         1 start, in 1 return
-  handed back  1 start more than lent, in 1 return
   unchanged    1 return
-  not counted  0 back already, 0 without a count, 0 that kept none before
-  refused      0 returns
+  not counted  0 back already, 1 without a count
+  refused      1 return with Count Raised, 1 with another status
   no reply     0 calls
-  total 0 in 3 returns
+  total -1 in 2 returns
 ";
     assert_eq!(report.as_deref(), Ok(expected));
 }
@@ -160,7 +163,7 @@ fn json_has_an_object_on_each_line() {
     }
     let sorts: Vec<&str> = shapes.iter().map(|(row, _)| row.as_str()).collect();
     assert_eq!(sorts, ["\"call\"", "\"summary\""]);
-    assert_eq!(text.lines().count(), 22 + 1);
+    assert_eq!(text.lines().count(), 23 + 1);
     assert!(text.ends_with("}\n"));
 }
 
@@ -187,6 +190,25 @@ fn json_adds_up() {
     assert_eq!(counted.count() as i64, number(summary[0], "returns"));
     let last = calls[calls.len() - 1];
     assert_eq!(number(last, "total"), number(summary[0], "total"));
+}
+
+/// A return that would raise a count is told by its status, and has no change.
+#[test]
+fn json_tells_counts_that_are_raised() {
+    let text = week(Form::Json);
+    let raised: Vec<&str> = text
+        .lines()
+        .filter(|line| member(line, "row") == "\"call\"")
+        .filter(|line| member(line, "return") == "\"count raised\"")
+        .collect();
+    for line in &raised {
+        let told = ["number", "status", "change", "counted"].map(|name| member(line, name));
+        assert_eq!(told, ["0", "9", "0", "false"]);
+        assert_eq!(member(line, "outcome"), "\"Count Raised\"");
+    }
+    let summary = text.lines().last().expect("a summary");
+    assert_eq!(member(summary, "count_raised"), raised.len().to_string());
+    assert_eq!((raised.len(), member(summary, "refused")), (3, "1".into()));
 }
 
 /// Quotes and backslashes in a handle are escaped, and the line stays an object.

@@ -23,8 +23,8 @@ fn did(entry: &Entry) -> (Option<Returned>, i32, i32, u16) {
 
 #[test]
 fn each_return_has_its_change_and_the_running_total() {
-    let counts = [Some(9), Some(0), Some(5), Some(65_535), Some(0)];
-    let sent = [Some(4), Some(3), Some(5), Some(0), Some(65_535)];
+    let counts = [Some(9), Some(3), Some(5), Some(65_535), Some(0)];
+    let sent = [Some(4), Some(0), Some(5), Some(0), Some(0)];
     let lines = (0x41..)
         .zip(sent)
         .map(|(under, count)| give_back(under, count));
@@ -33,10 +33,10 @@ fn each_return_has_its_change_and_the_running_total() {
     let counted = Some(Returned::Counted);
     let expected = [
         (counted, -5, -5, 1),
-        (counted, 3, -2, 2),
-        (counted, 0, -2, 3),
-        (counted, -65_535, -65_537, 4),
-        (counted, 65_535, -2, 5),
+        (counted, -3, -8, 2),
+        (counted, 0, -8, 3),
+        (counted, -65_535, -65_543, 4),
+        (counted, 0, -65_543, 5),
     ];
     assert_eq!(entries.iter().map(did).collect::<Vec<_>>(), expected);
     let lines: Vec<usize> = entries.iter().map(|entry| entry.line).collect();
@@ -45,19 +45,33 @@ fn each_return_has_its_change_and_the_running_total() {
 
 #[test]
 fn a_return_that_is_not_counted_says_why() {
-    let cases = [
-        (Some(9), None, Returned::NoneSent),
-        (None, Some(9), Returned::NoneStored),
-        (None, None, Returned::NoneSent),
-    ];
-    for (stored, sent, returned) in cases {
-        let text = give_back(0x41, sent) + &give_back(0x41, Some(1)) + &give_back(0x42, Some(1));
-        let (entries, _) = parted(rows(&text, lent(&[stored]), Totals::from_parts(-7, 3)));
-        let why = [returned, Returned::Again, Returned::Refused];
-        let expected = why.map(|returned| (Some(returned), 0, -7, 3));
-        assert_eq!(entries.iter().map(did).collect::<Vec<_>>(), expected);
-        let refused = Outcome::Reply(Status::HandleNotFound);
-        assert_eq!(entries[2].outcome, refused);
+    let text = give_back(0x41, None) + &give_back(0x41, Some(1)) + &give_back(0x42, Some(1));
+    let (entries, _) = parted(rows(&text, lent(&[None]), Totals::from_parts(-7, 3)));
+    let why = [Returned::NoCount, Returned::Again, Returned::Refused];
+    let expected = why.map(|returned| (Some(returned), 0, -7, 3));
+    assert_eq!(entries.iter().map(did).collect::<Vec<_>>(), expected);
+    let refused = Outcome::Reply(Status::HandleNotFound);
+    assert_eq!(entries[2].outcome, refused);
+}
+
+/// A return that would raise a count is refused and not counted. The course stays
+/// lent, and the next return is counted as if there had been no other.
+#[test]
+fn a_return_that_would_raise_a_count_is_refused() {
+    let (from, counted) = (Totals::from_parts(-7, 3), Returned::Counted);
+    for (stored, sent, then, back) in [
+        (Some(9), Some(10), Some(4), (counted, -5, -12, 4)),
+        (Some(9), None, Some(9), (counted, 0, -7, 4)),
+        (None, Some(0), None, (Returned::NoCount, 0, -7, 3)),
+    ] {
+        let text = give_back(0x41, sent) + &give_back(0x41, then);
+        let (entries, periods) = parted(rows(&text, lent(&[stored]), from));
+        let raised = Outcome::Reply(Status::CountRaised);
+        assert_eq!(entries[0].outcome, raised);
+        assert_eq!(did(&entries[0]), (Some(Returned::Raised), 0, -7, 3));
+        let (returned, change, total, returns) = back;
+        assert_eq!(did(&entries[1]), (Some(returned), change, total, returns));
+        assert_eq!((periods[0].raised, periods[0].refused), (1, 0));
     }
 }
 
@@ -147,9 +161,9 @@ fn a_call_without_a_reply_has_its_number() {
 /// The summary says how the total came about.
 fn assert_adds_up(period: &Summary) {
     let (from, to) = (period.from, period.totals);
-    let change = i64::from(period.handed_back.starts) - i64::from(period.used.starts);
-    assert_eq!(i64::from(from.total()) + change, i64::from(to.total()));
-    let counted = period.used.returns + period.handed_back.returns + period.unchanged;
+    let used = i64::from(period.used.starts);
+    assert_eq!(i64::from(from.total()) - used, i64::from(to.total()));
+    let counted = period.used.returns + period.unchanged;
     let returns = usize::from(from.returns()) + counted;
     assert_eq!(returns, usize::from(to.returns()));
 }
@@ -161,12 +175,12 @@ fn the_summary_adds_up() {
     let period = &periods[0];
     assert_adds_up(period);
     assert_eq!(period.totals, entries[entries.len() - 1].totals);
-    let part = |starts, returns| Part { starts, returns };
-    assert_eq!((period.used, period.handed_back), (part(5, 2), part(4, 1)));
-    let others = [period.unchanged, period.again, period.none_sent];
+    let (starts, returns) = (8, 3);
+    assert_eq!(period.used, Part { starts, returns });
+    let others = [period.unchanged, period.again, period.no_count];
     assert_eq!(others, [1, 1, 1]);
-    let others = [period.none_stored, period.refused, period.no_reply];
-    assert_eq!((others, period.calls), ([1, 1, 1], 22));
+    let others = [period.raised, period.refused, period.no_reply];
+    assert_eq!((others, period.calls), ([3, 1, 1], 23));
 }
 
 /// The report says of each call what the call does.
@@ -220,19 +234,25 @@ fn a_full_total_begins_a_new_period() {
     assert_eq!(periods[1].from, Totals::new());
 }
 
-/// Three periods, each from 0 and 0 on: one return more than two of them hold.
+/// Three periods, each from 0 and 0 on: one return more than two of them hold. One
+/// start is used in every other return.
 #[test]
 fn long_recordings_have_many_periods() {
     let (course, borrower) = (Handle([0x41; 10]), Handle([0x42; 10]));
     let lend = |handle, new_handle| line(&Request::RekQuery { handle, new_handle });
-    let there = give_back(0x41, Some(8)) + &lend(course, borrower);
-    let back = give_back(0x42, Some(9)) + &lend(borrower, course);
-    let text = (there + &back).repeat(usize::from(MOST_RETURNS)) + &give_back(0x41, Some(2));
-    let (_, periods) = parted(rows(&text, lent(&[Some(9)]), Totals::new()));
+    let [there, back] = [lend(course, borrower), lend(borrower, course)];
+    let twice = |left| {
+        let [first, second] = [0x41, 0x42].map(|under| give_back(under, Some(left)));
+        first + &there + &second + &back
+    };
+    let text: String = (7..7 + MOST_RETURNS).rev().map(twice).collect();
+    let text = text + &give_back(0x41, Some(2));
+    let all = lent(&[Some(7 + MOST_RETURNS)]);
+    let (_, periods) = parted(rows(&text, all, Totals::new()));
     let returns: Vec<u16> = periods.iter().map(|one| one.totals.returns()).collect();
     assert_eq!(returns, [MOST_RETURNS, MOST_RETURNS, 1]);
     let totals: Vec<i32> = periods.iter().map(|one| one.totals.total()).collect();
-    assert_eq!(totals, [0, 0, -7]);
+    assert_eq!(totals, [-15_000, -15_000, -5]);
     periods.iter().for_each(assert_adds_up);
     assert_eq!(periods[0].used.returns, usize::from(MOST_RETURNS) / 2);
 }
