@@ -118,7 +118,7 @@ fn give_back(handle: Handle, uses: u16) -> Request {
     }
 }
 
-/// The course is lent once, and returned.
+/// The course is lent once, and returned with no more uses than it went with.
 fn lending() -> Vec<Step> {
     vec![
         step("The course is lent", lend(COURSE, LENT), Status::Success,
@@ -127,6 +127,8 @@ fn lending() -> Vec<Step> {
             "No right is under that handle any more, so no second key goes out."),
         step("The other course is lent under the same handle", lend(OTHER, LENT), Status::DuplicateHandle,
             "The handle is taken. It is looked for before anything is written: the other course stays as it was."),
+        step("The course comes back, with more uses than it went with", give_back(LENT, 11), Status::CountRaised,
+            "Ten were lent, and a return adds none. Nothing is returned: the course stays lent, and can be returned with what is left."),
         step("The course comes back", give_back(LENT, 9), Status::Success,
             "It is for use again, with the nine uses that are left. One of ten was used, and planners total that."),
         step("The message is sent again", give_back(LENT, 3), Status::Success,

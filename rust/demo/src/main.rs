@@ -212,6 +212,24 @@ mod tests {
         assert_eq!(shown.collect::<Vec<_>>(), expected);
     }
 
+    /// A return with more uses than were lent is refused: the course stays lent with
+    /// its ten, and nothing is totalled. Then it is returned with nine.
+    #[test]
+    fn a_return_with_more_uses_is_refused_and_then_made_properly() {
+        let text = walk(&Screen::new(false)).expect("it walks");
+        let steps: Vec<&str> = text.split("\n\n").collect();
+        let raised = steps.iter().position(|step| step.contains("Count Raised"));
+        let raised = raised.expect("one step is refused so");
+        let [refused, made] = [steps[raised], steps[raised + 1]];
+        assert!(refused.contains("LENT-TO-42 is back, with a count of 11\n"));
+        assert!(refused.contains("Count Raised\n           25 09 00 00\n"));
+        assert!(refused.contains("0 disabled 1 10 17\n"), "{refused}");
+        assert!(!refused.contains("change"), "{refused}");
+        assert!(made.contains("LENT-TO-42 is back, with a count of 9\n"));
+        assert!(made.contains("0 enabled 1 9 17\n"), "{made}");
+        assert_eq!(text.matches("Count Raised").count(), 1);
+    }
+
     /// An installation without a hash is refused by the writer, which says why,
     /// and by the card. With its hash the course is installed and found by it.
     #[test]

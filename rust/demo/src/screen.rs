@@ -72,9 +72,8 @@ impl Screen {
 
     /// What a return did to the count, and the totals with it.
     pub fn change(&self, change: i32, counted: bool, totals: &Totals) -> String {
-        let sign = if change > 0 { "+" } else { "" };
         let not = if counted { "" } else { ", not counted" };
-        let meaning = format!("{sign}{change}{not}; {totals}");
+        let meaning = format!("{change}{not}; {totals}");
         format!("  change   {}\n", self.paint("1", &meaning))
     }
 
