@@ -1,8 +1,9 @@
 /* An ordinary C program that links libcavernlull.a, as a front end or a device does: one course on its way through a card of
  * two slots. It is set up, installed, listed, lent, refused a second time and under a handle in use, returned and removed. Then
- * it is set up with other starts, and in one slot after the other; it has a count of 1, which is used up and stays so; its
- * returns are totalled; it is refused without a hash, and used where a card holds it so; it is on an old card, whose table is
- * turned, and on a damaged one, which is salvaged. The card's tally is kept beside its table, and lent with each call.
+ * it is set up with other starts, and in one slot after the other; it has a count of 1, which is used up and stays so; it is not
+ * taken back with a count that is raised; its returns are totalled; it is refused without a hash, and used where a card holds it
+ * so; it is on an old card, whose table is turned, and on a damaged one, which is salvaged. The card's tally is kept beside its
+ * table, and lent with each call.
  *
  * Each step is checked against what the header promises: the number, every byte of the reply buffer, every byte of the table,
  * the five numbers of the tally, the three of a total, what the reply reader reads in the reply, and the listing. The expected
@@ -369,7 +370,16 @@ static void wears_alike(void) {
     CHECK(start == 0);
 }
 
-/* ---- counts: the course is installed with `first`, lent, returned with `then` and lent again: `then` is what goes out */
+/* A return of the course, which is lent under `borrower`, is refused with each of these counts, and it stays lent. */
+static void raises(const struct count *sent, size_t length) {
+    for (size_t i = 0; i < length; i++) {
+        write_return(borrower, sent[i]);
+        refused(CAVERNLULL_COUNT_RAISED);
+    }
+}
+
+/* ---- counts: the course is installed with `first`, lent, refused with a count that is raised, returned with `then` and lent
+ * again: `then` is what goes out */
 static void counts(struct count first, struct count then) {
     write_plain(CAVERNLULL_INSTALLATION_SETUP, course, none, 300);
     put_reserved(0, course, 300);
@@ -380,8 +390,12 @@ static void counts(struct count first, struct count then) {
     write_plain(CAVERNLULL_REK_QUERY, course, borrower, 0);
     put_right(DISABLED, borrower, first);
     call(CAVERNLULL_SUCCESS, key, sizeof key);
+    if (!first.is_kept) raises((const struct count[]){kept(0), kept(1), kept(0xFFFF)}, 3);
+    else raises((const struct count[]){no_count, kept((uint16_t)(first.number + 1))}, first.number == 0xFFFF ? 1 : 2);
     write_return(borrower, then);
     put_right(ENABLED, borrower, then);
+    done();
+    write_return(borrower, kept(0xFFFF)); /* sent again: the count makes no difference */
     done();
     retrieves(then);
     write_plain(CAVERNLULL_RIGHTS_REMOVAL, course, none, 0);
@@ -438,6 +452,18 @@ static void returns_totalled(struct count first, struct count then, int counted,
         CHECK(memcmp(table, expected, sizeof table) == 0);
         CHECK(same_tally(tally, expected_tally()));
     }
+}
+
+/* It is lent with `first`, and a return with `then` raises the count: nothing changes but the change, which becomes 0. */
+static void raise_totalled(struct count first, struct count then) {
+    put_lent(first);
+    write_return(borrower, then);
+    CHECK(call_totalling(-7, 3, sizeof table, length_of(frame), sizeof reply) == CAVERNLULL_DONE);
+    CHECK(summed(-7, 3, 0));
+    CHECK(memcmp(reply, (const uint8_t[]){0x25, CAVERNLULL_COUNT_RAISED, 0, 0}, 4) == 0);
+    CHECK(filled(reply + 4, sizeof reply - 4, FILLER));
+    CHECK(memcmp(table, expected, sizeof table) == 0);
+    CHECK(same_tally(tally, expected_tally()));
 }
 
 /* A return that is sent again, a lending and a refused return are not counted. */
@@ -507,13 +533,13 @@ static void totalling_refusals(void) {
 
 static void totals(void) {
     returns_totalled(kept(9), kept(4), 1, -5);
-    returns_totalled(kept(4), kept(9), 1, 5);
     returns_totalled(kept(9), kept(9), 1, 0);
     returns_totalled(kept(65535), kept(0), 1, -CAVERNLULL_MOST_CHANGE);
-    returns_totalled(kept(0), kept(65535), 1, CAVERNLULL_MOST_CHANGE);
-    returns_totalled(kept(9), no_count, 0, 0);
-    returns_totalled(no_count, kept(9), 0, 0);
     returns_totalled(no_count, no_count, 0, 0);
+    raise_totalled(kept(4), kept(9));
+    raise_totalled(kept(0), kept(65535));
+    raise_totalled(kept(9), no_count);
+    raise_totalled(no_count, kept(9));
     returns_totalled(kept(10), kept(9), 1, -1);
     others_totalled();
     totalling_refusals();
@@ -884,10 +910,23 @@ static void reader_refusals(void) {
         CHECK(cavernlull_read_reply((const uint8_t[]){0x20 | kind, 8, 0, 0}, 4, same, fields) == CAVERNLULL_NO_REPLY);
         CHECK(cavernlull_read_reply((const uint8_t[]){0x20 | kind, 0x84, 0, 0}, 4, same, fields) == CAVERNLULL_NO_REPLY);
     }
-    CHECK(cavernlull_read_reply((const uint8_t[]){0x21, 9, 0, 0}, 4, same, fields) == CAVERNLULL_NO_REPLY);
+    CHECK(cavernlull_read_reply((const uint8_t[]){0x21, 10, 0, 0}, 4, same, fields) == CAVERNLULL_NO_REPLY);
+    CHECK(cavernlull_read_reply((const uint8_t[]){0x25, 9, 0, 1, 0}, 5, same, fields) == CAVERNLULL_NO_REPLY);
+    CHECK(cavernlull_read_reply((const uint8_t[]){0x25, 0x89, 0, 0}, 4, same, fields) == CAVERNLULL_NO_REPLY);
     CHECK(cavernlull_read_reply((const uint8_t[]){0x25, 0x80, 0, 0}, 4, same, fields) == CAVERNLULL_NO_REPLY);
     CHECK(cavernlull_read_reply((const uint8_t[]){0x29, 0, 0, 3, 0, 1, 0}, 7, same, fields) == CAVERNLULL_NO_REPLY);
     CHECK(filled(same, sizeof same, FILLER) && fields[0] == 0xA5A5 && fields[CAVERNLULL_REPLY_NUMBERS - 1] == 0xA5A5);
+}
+
+/* Each status but 0 is read in a reply of any kind, those that there are not as well. */
+static void reads_statuses(void) {
+    static const uint8_t statuses[] = {1, 2, 3, 4, 5, 6, 7, 9};
+    uint8_t read[CAVERNLULL_KEY_BYTES];
+    for (uint8_t kind = 0; kind < 32; kind++)
+        for (size_t i = 0; i < sizeof statuses; i++) {
+            CHECK(cavernlull_read_reply((const uint8_t[]){0x20 | kind, statuses[i], 0, 0}, 4, read, fields) == CAVERNLULL_DONE);
+            CHECK(fields[CAVERNLULL_REPLY_KIND] == kind && fields[CAVERNLULL_REPLY_STATUS] == statuses[i]);
+        }
 }
 
 int main(void) {
@@ -904,8 +943,8 @@ int main(void) {
     wears_alike();
     counts(kept(1), kept(0)); /* used up, and not free */
     counts(no_count, no_count);
-    counts(kept(0xFFFF), no_count);
-    counts(no_count, kept(256));
+    counts(kept(0xFFFF), kept(256));
+    counts(kept(0), kept(0));
     totals();
     installs_none_without_a_hash();
     uses_old_rights();
@@ -917,6 +956,7 @@ int main(void) {
     start_refusals();
     writer_refusals();
     reader_refusals();
+    reads_statuses();
     printf("ordinary: %d checks hold\n", checks);
     return 0;
 }
