@@ -3,10 +3,10 @@
  * from a start, changes to the table, turnings, salvages, and tallies worked out. After each call the number, the reply buffer, the
  * table and the tally must be those of the agent in C (counterparts/c/agent.c), and so must a tally that is worked out, and number,
  * report buffer and table of a salvage; each call is made as a totalling call too, on copies and with totals that can be or
- * cannot, and must give the same, with the change and the totals that are worked out below; a table that was salvaged must have a
- * tally, and nothing to clear; after each turning, number and table must be those of the turning below; every request that is
- * written must have the kind and the count's bit asked for, and the verdict 1; no installation may be written without a hash; and
- * every reply must be one that the reply reader takes.
+ * cannot, and must give the same, with the change and the totals that are worked out below; no return may raise a count, begin one
+ * or end one; a table that was salvaged must have a tally, and nothing to clear; after each turning, number and table must be those
+ * of the turning below; every request that is written must have the kind and the count's bit asked for, and the verdict 1; no
+ * installation may be written without a hash; and every reply must be one that the reply reader takes.
  *
  * All memory is lent in allocations of exactly its length, so that the address sanitiser sees any access outside it.
  */
@@ -191,12 +191,20 @@ static const uint8_t *record_of(const uint8_t *table, size_t length, const uint8
     abort();
 }
 
+/* Whether the count of a return raises that of its record (PROFILE 5.5). */
+static int raises(const uint8_t *record, const uint8_t *frame) {
+    int stored = (record[0] & CAVERNLULL_KEPT_IN_SLOT) != 0, sent = (frame[1] & CAVERNLULL_KEPT_IN_REQUEST) != 0;
+    return stored != sent || memcmp(frame + 14, record + 27, 2) > 0;
+}
+
 /* Adds what a call with a reply did to the count (PROFILE 4.4). */
 static void add_change(struct sums *s, const uint8_t *table, size_t length, const uint8_t *frame, const uint8_t *reply) {
     s->change = 0;
     if ((frame[0] & 31) != CAVERNLULL_RIGHTS_ENABLEMENT || reply[1] != CAVERNLULL_SUCCESS) return;
     const uint8_t *record = record_of(table, length, frame);
-    if (record[0] >> 6 != 3 || !(record[0] & CAVERNLULL_KEPT_IN_SLOT) || !(frame[1] & CAVERNLULL_KEPT_IN_REQUEST)) return;
+    if (record[0] >> 6 != 3) return;
+    if (raises(record, frame)) abort();
+    if (!(record[0] & CAVERNLULL_KEPT_IN_SLOT)) return;
     s->change = (frame[14] << 8 | frame[15]) - (record[27] << 8 | record[28]);
     s->total += s->change;
     s->returns++;
