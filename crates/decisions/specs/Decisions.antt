@@ -32,6 +32,10 @@ lendable = record { reserved = false; enabled = true; disabled = false }
 abbrev pub installed : Takes
 installed = record { reserved = false; enabled = true; disabled = true }
 
+-- and of these the one that kind 5 changes
+abbrev pub lent : Takes
+lent = record { reserved = false; enabled = false; disabled = true }
+
 -- kinds 3 and 4: what was decided before, unless the new handle is in use, be it in the record's own slot
 unfoldable pub unlessUsed : Bool → Decision → Decision
 unlessUsed used (Refuse n) = Refuse n

@@ -44,6 +44,13 @@ pub const INSTALLED: Takes = Takes {
     disabled: true,
 };
 
+// A disabled one is lent: a return is held to its count, and an enabled one's is left as it is (PROFILE 5.5).
+pub const LENT: Takes = Takes {
+    reserved: false,
+    enabled: false,
+    disabled: true,
+};
+
 // Is the place one that is taken? No record is empty: only an empty slot has no handle (PROFILE 2.3).
 pub fn takes_place(takes: Takes, place: Place) -> bool
     ensures { λ r. ⌜ r ≡ takesPlace takes place ⌝ }

@@ -3,7 +3,7 @@ use Prim.Native.Nat.{ℕ}
 use mathlib.Core.Path.{_≡_, refl, sym, ap, _∙_}
 use mathlib.Core.List.{[], _∷_}
 use mathlib.Core.Logic.{⊎-elim}
-use mathlib.Core.Bool.{true, false, true≢false, false≢true}
+use mathlib.Core.Bool.{true, false, _&&_, true≢false, false≢true}
 use native.Mathlib.Omega.{arith}
 use types.Run.{OneOf}
 use denote.Enum.Declared.{tagOf}
@@ -21,7 +21,7 @@ use Rattle.tables.specs.LookUp.{foundAt}
 use Rattle.changes.specs.Change.{slotAt}
 use Rattle.decisions.specs.declared.decision.Decision.{Decision}
 use Rattle.decisions.specs.declared.decision.Decision.the-variants.{Refuse, Take}
-use Rattle.decisions.specs.Decisions.{takesPlace, lendable, installed, decided, unlessUsed}
+use Rattle.decisions.specs.Decisions.{takesPlace, lendable, installed, lent, decided, unlessUsed}
 use Rattle.decisions.specs.Serving.{Ready, answerTo}
 use Rattle.decisions.proofs.Answers.{Denied}
 use Rattle.decisions.proofs.Deciding.{expects, refuses, Held, chosen-enabled, lending-refused, lending-decided}
@@ -71,14 +71,17 @@ module _ (T h : Bytes) (c : Count) where
   stays i Enabled s n = rw (s .0 .found)
   stays i Disabled s n = absurd (n refl)
 
-  -- a disabled one whose count would rise is refused, and else it is enabled with the count sent
-  pub raised : (i : ℕ) → Held T h i Disabled → raises (countOf (slotAt T i)) c ≡ true → Denied 9 (answerTo T (enable h c))
+  -- one that is lent is refused where its count would rise, and else it is enabled with the count sent
+  pub raised : (i : ℕ) (o : Place) → Held T h i o → (takesPlace lent o && raises (countOf (slotAt T i)) c) ≡ true → Denied 9 (answerTo T (enable h c))
   unfolding act
-  raised i w up = record { refusal = countRaised; numbered = refl; answer = rw (w .found, up) }
+  raised i Empty w up = absurd (false≢true up)
+  raised i Reserved w up = absurd (false≢true up)
+  raised i Enabled w up = absurd (false≢true up)
+  raised i Disabled w up = record { refusal = countRaised; numbered = refl; answer = rw (w .found, up) }
 
-  pub returned : (i : ℕ) → Held T h i Disabled → raises (countOf (slotAt T i)) c ≡ false
+  pub returned : (i : ℕ) (o : Place) → Held T h i Disabled → o ≡ Disabled → (takesPlace lent o && raises (countOf (slotAt T i)) c) ≡ false
       → answerTo T (enable h c) ≡ done nothing (set (slotsOf T) i (taken (handleOf (slotAt T i)) (enabled (recount c (rightOf (slotAt T i))))))
   unfolding act
-  returned i w low =
-      rw (w .found, low)
+  returned i o w is low =
+      rw (w .found, rw is at low)
       (ap (λ (k : Bytes). done nothing (set (slotsOf T) i (taken k (enabled (recount c (rightOf (slotAt T i))))))) (sym (w .handle-is)))

@@ -1,6 +1,7 @@
 // Kind 5, Rights Enablement.
 use decisions::decision::Decision;
 use decisions::decision::INSTALLED;
+use decisions::decision::LENT;
 use profile::Count;
 use profile::sizes::HANDLE_BYTES;
 use profile::slot::LENGTH_AT;
@@ -24,17 +25,19 @@ pub fn enable(table: &mut [u8], reply: &mut [u8], h: [u8; HANDLE_BYTES], count: 
             Change::Same
         }
         Decision::Take(i, place) => {
+            let slot = tables::part::slot_at(table, i);
+            let length = words::word_at(slot, LENGTH_AT);
+            let stored = slots::head::count_of(slot);
+            let lent = decisions::decision::takes_place(LENT, place);
+            let raised = counts::raises(stored, count);
+            if lent & raised {
+                reply_writer::writer::reply_status(reply, 5, COUNT_RAISED);
+                return Change::Same;
+            }
             let Place::Disabled = place else {
                 reply_writer::writer::reply_status(reply, 5, SUCCESS);
                 return Change::Same;
             };
-            let slot = tables::part::slot_at(table, i);
-            let length = words::word_at(slot, LENGTH_AT);
-            let stored = slots::head::count_of(slot);
-            if counts::raises(stored, count) {
-                reply_writer::writer::reply_status(reply, 5, COUNT_RAISED);
-                return Change::Same;
-            }
             changes::give_back(table, i, count);
             reply_writer::writer::reply_status(reply, 5, SUCCESS);
             Change::Returned(length, stored, length, count)
