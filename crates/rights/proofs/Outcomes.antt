@@ -8,22 +8,24 @@ use native.Mathlib.Omega.{arith}
 use types.Run.{OneOf}
 use denote.Enum.Declared.{tagOf}
 use lib.ListN.{set}
-use Rattle.profile.specs.Bytes.{Bytes, Bytes256}
+use Rattle.profile.specs.Bytes.{Bytes, Bytes256, over}
 use Rattle.profile.specs.Slot.{Count, raises, Right, recount, Entry, enabled, disabled, taken, inUse}
 use Rattle.profile.specs.Table.{handleOf, countOf, rightOf, slotsOf}
-use Rattle.profile.specs.Frame.{duplicate, countRaised}
+use Rattle.profile.specs.Frame.{duplicate, countRaised, frame}
 use Rattle.profile.specs.Request.{enable}
 use Rattle.profile.specs.Agent.{Given, Answer, nothing, done, find, whenFound, lendAt, enableAt, act}
 use Rattle.slots.specs.declared.place.Place.{Place}
 use Rattle.slots.specs.declared.place.Place.the-variants.{Empty, Reserved, Enabled, Disabled}
 use Rattle.slots.proofs.place.Place.{the-type}
 use Rattle.tables.specs.LookUp.{foundAt}
+use Rattle.tallies.specs.declared.update.Change.{Change}
+use Rattle.tallies.specs.declared.update.Change.the-variants.{Same}
 use Rattle.changes.specs.Change.{slotAt}
 use Rattle.decisions.specs.declared.decision.Decision.{Decision}
 use Rattle.decisions.specs.declared.decision.Decision.the-variants.{Refuse, Take}
 use Rattle.decisions.specs.Decisions.{takesPlace, lendable, installed, lent, decided, unlessUsed}
-use Rattle.decisions.specs.Serving.{Ready, answerTo}
-use Rattle.decisions.proofs.Answers.{Denied}
+use Rattle.decisions.specs.Serving.{Ready, Serves, answerTo}
+use Rattle.decisions.proofs.Answers.{Denied, refused-serves}
 use Rattle.decisions.proofs.Deciding.{expects, refuses, Held, chosen-enabled, lending-refused, lending-decided}
 
 -- ---- 3 and 4, by the decision d, whatever they give
@@ -49,6 +51,10 @@ module _ (T B h k : Bytes) (bytes : Bytes256 T) (r : Ready T B) (d : Decision) (
 
     pub lends : (give : Right → Given) → whenFound (find h (slotsOf T)) (lendAt (slotsOf T) k give) ≡ done (give (rightOf (slotAt T i))) (set (slotsOf T) i (taken k (disabled (rightOf (slotAt T i)))))
     lends give = rw (to-lend .found, free .0)
+
+-- ---- 5, refused: the reply has the status, and nothing is changed
+pub refuse-serves : {a : Answer} {T B B' : Bytes} {c : Change} {n : ℕ} → Denied n a → (B' ≡ over (frame 5 n []) B) × (c ≡ Same) → Serves 5 a T B T B' c
+refuse-serves d e = rw (e .1) (refused-serves d (e .0))
 
 -- ---- 5, on a record that is installed
 -- an else after `let Place::Disabled`

@@ -10,9 +10,9 @@ use Rattle.changes.specs.Change.{slotAt}
 use Rattle.slots.specs.declared.place.Place.{Place}
 use Rattle.slots.specs.declared.place.Place.the-variants.{Disabled}
 use Rattle.decisions.specs.Decisions.{takesPlace, installed, lent}
-use Rattle.decisions.proofs.Answers.{refused-serves, done-serves, kept-serves}
+use Rattle.decisions.proofs.Answers.{done-serves, kept-serves}
 use Rattle.decisions.proofs.Deciding.{Held, chosen, return-moves}
-use Rattle.rights.proofs.Outcomes.{not-disabled, enable-refused, stays, raised, returned}
+use Rattle.rights.proofs.Outcomes.{refuse-serves, not-disabled, enable-refused, stays, raised, returned}
 use borrow.Author.Needs.{needs}
 use Rattle.rights.proofs.enable.enable.Statement.{statement}
 use Rattle.rights.proofs.enable.enable.Tie as tie
@@ -68,8 +68,8 @@ slot-under-requires c κs = search needs
 enum-known-status : tie.Need-enum-known-status
 enum-known-status c = search needs
 
-reply-status-requires : tie.Need-reply-status-requires
-reply-status-requires c κs = search needs
+refuse-requires : tie.Need-refuse-requires
+refuse-requires c κs = search needs
 
 enum-known-i : tie.Need-enum-known-i
 enum-known-i c = search needs
@@ -89,8 +89,8 @@ takes-place-requires c κs = search needs
 raises-requires : tie.Need-raises-requires
 raises-requires c κs = search needs
 
-reply-status-requires-2 : tie.Need-reply-status-requires-2
-reply-status-requires-2 c κs = search needs
+refuse-requires-2 : tie.Need-refuse-requires-2
+refuse-requires-2 c κs = search needs
 
 same-length : tie.Need-same-length
 same-length c = search needs
@@ -103,13 +103,13 @@ returns c =
     let replied = c .before .before in
     let up = replied .before .before in
     let at = fromTest (up .before) in
-    refused-serves (raised _ _ (start (at .before .before) .args .count) _ (placeIn at) (found at .0) (sym (test-is (up .before)) ∙ up .if1 .taken)) (replied .reply-status2 .ensures)
+    refuse-serves (raised _ _ (start (at .before .before) .args .count) _ (placeIn at) (found at .0) (sym (test-is (up .before)) ∙ up .if1 .taken)) (replied .refuse2 .ensures)
 
 enum-told : tie.Need-enum-told
 enum-told c = search needs
 
-reply-status-requires-3 : tie.Need-reply-status-requires-3
-reply-status-requires-3 c κs = search needs
+reply-status-requires : tie.Need-reply-status-requires
+reply-status-requires c κs = search needs
 
 same-length-3 : tie.Need-same-length-3
 same-length-3 c = search needs
@@ -123,7 +123,7 @@ returns-2 c =
     let other = replied .before .before in
     let at = fromTest (other .before .before) in
     let d = at .before .before in
-    kept-serves (bytes d) (start d .pre) (stays _ _ (start d .args .count) _ _ (found at) (not-disabled _ (other .match2 .keys2))) (replied .reply-status3 .ensures)
+    kept-serves (bytes d) (start d .pre) (stays _ _ (start d .args .count) _ _ (found at) (not-disabled _ (other .match2 .keys2))) (replied .reply-status .ensures)
 
 -- the record that is enabled again was disabled
 disabled : (told : tie.After-enum-told) → Record (fromTest (told .before .before .before)) Disabled
@@ -136,8 +136,8 @@ give-back-requires c κs =
     let w = disabled (c .before) in
     (w .has, w .place-is)
 
-reply-status-requires-4 : tie.Need-reply-status-requires-4
-reply-status-requires-4 c κs = search needs
+reply-status-requires-2 : tie.Need-reply-status-requires-2
+reply-status-requires-2 c κs = search needs
 
 same-length-5 : tie.Need-same-length-5
 same-length-5 c = search needs
@@ -150,7 +150,7 @@ returns-3 c =
     let replied = c .before .before in
     let at = replied .before .before .before in
     let d = at .before .before in
-    refused-serves (enable-refused _ (start d .args .h) (start d .args .count) _ (d .slot-under .ensures) _ (at .status .given .1)) (replied .reply-status .ensures)
+    refuse-serves (enable-refused _ (start d .args .h) (start d .args .count) _ (d .slot-under .ensures) _ (at .status .given .1)) (replied .refuse .ensures)
 
 same-length-7 : tie.Need-same-length-7
 same-length-7 c = search needs
@@ -166,7 +166,7 @@ returns-4 c =
     let kept = low .before .before .before in
     let count = start (fromTest (low .before) .before .before) .args .count in
     done-serves (returned _ _ count _ (placeIn (fromTest (low .before))) (disabled told) (told .enum-told .given .1) (sym (test-is (low .before)) ∙ low .if1 .left)) (changed .give-back .ensures)
-    (c .before .before .reply-status4 .ensures) (return-moves (disabled told) _ (length-is (kept .before)) _ (count-is kept) _ count)
+    (c .before .before .reply-status2 .ensures) (return-moves (disabled told) _ (length-is (kept .before)) _ (count-is kept) _ count)
 
 pub enable-spec : {M : Type 1} → statement M
 enable-spec =
@@ -174,24 +174,24 @@ enable-spec =
     (tie.spec
     slot-under-requires
     enum-known-status
-    reply-status-requires
+    refuse-requires
     enum-known-i
     slot-at-requires
     word-at-requires
     count-of-requires
     takes-place-requires
     raises-requires
-    reply-status-requires-2
+    refuse-requires-2
     same-length
     same-length-2
     returns
     enum-told
-    reply-status-requires-3
+    reply-status-requires
     same-length-3
     same-length-4
     returns-2
     give-back-requires
-    reply-status-requires-4
+    reply-status-requires-2
     same-length-5
     same-length-6
     returns-3
