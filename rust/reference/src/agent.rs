@@ -6,7 +6,7 @@ use crate::reply::{handles_body, information_body, reply_frame, Success};
 use crate::request::content_of;
 use crate::slot::{self, Place, SlotBytes};
 use crate::table;
-use crate::{read_request, Fields, Handle, Kind, ReadRequest, Request, Status, Tally};
+use crate::{read_request, Count, Fields, Handle, Kind, ReadRequest, Request, Status, Tally};
 use crate::{HANDLE_BYTES, MAX_PAYLOAD};
 
 /// The bytes that a reply buffer must have: as many as the longest reply, which
@@ -140,12 +140,14 @@ fn lend<'a>(slots: &'a mut [SlotBytes], fields: &Fields<'_>) -> Result<&'a mut S
 }
 
 /// Kind 5 (PROFILE 5.5): status 4 for an unknown handle, then 6 where the
-/// record is reserved. A success enables a disabled record with the request's
-/// count, kept or not, and leaves an enabled one as it is.
+/// record is reserved, then 9 where it is disabled and the request's count raises
+/// its own. A success enables a disabled record with the request's count, and
+/// leaves an enabled one as it is, whatever the count.
 fn enable(slots: &mut [SlotBytes], fields: &Fields<'_>) -> Outcome {
     let slot = record(slots, &fields.handle)?;
     expect(slot::place(slot) != Place::Reserved)?;
     if slot::place(slot) == Place::Disabled {
+        refuse_raised(slot::count(slot), fields.count)?;
         slot::enable(slot, fields.count);
     }
     Ok(Success::default())
@@ -222,6 +224,14 @@ fn locate(slots: &[SlotBytes], handle: &Handle) -> Result<usize, Status> {
 fn expect(as_expected: bool) -> Result<(), Status> {
     if !as_expected {
         return Err(Status::UnexpectedRequest);
+    }
+    Ok(())
+}
+
+/// Status 9 where the count sent raises the one stored.
+fn refuse_raised(stored: Count, sent: Count) -> Result<(), Status> {
+    if sent.raises(stored) {
+        return Err(Status::CountRaised);
     }
     Ok(())
 }

@@ -21,6 +21,17 @@ impl Count {
         }
     }
 
+    /// Whether this count, sent with a return, raises the one stored (PROFILE 5.5):
+    /// exactly one of the two is kept, or both are and this number is the greater.
+    pub fn raises(self, stored: Count) -> bool {
+        match (stored, self) {
+            (Count::NotKept, Count::NotKept) => false,
+            (Count::NotKept, Count::Kept(_)) => true,
+            (Count::Kept(_), Count::NotKept) => true,
+            (Count::Kept(stored), Count::Kept(sent)) => sent > stored,
+        }
+    }
+
     /// The bit: whether a count is kept.
     pub fn is_kept(self) -> bool {
         matches!(self, Count::Kept(_))

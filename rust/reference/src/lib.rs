@@ -16,6 +16,7 @@
 //! | [`read_reply`] | the device's reply reader | 6.3 |
 //! | [`listing`] | what the program `cardlist` prints | 7 |
 //! | [`ledger`] | the history of rights, told by requests and statuses | 8 |
+//! | [`CountsTold`] | what such a history tells of counts, none of which rises | 8.3 |
 //! | [`table`], [`slot`] | well-formedness, and one accessor for each field | 2 |
 //! | [`turn`] | the turning of tables from before a count had its bit | 2.7 |
 //! | [`Tally`], [`tally()`] | how a table is filled, worked out from its slots | 2.8 |
@@ -65,6 +66,7 @@ mod agent;
 mod bytes;
 mod content;
 mod count;
+mod counts_told;
 mod frame;
 mod kind;
 pub mod ledger;
@@ -83,6 +85,7 @@ mod turning;
 
 pub use agent::{call, REPLY_ROOM};
 pub use count::Count;
+pub use counts_told::CountsTold;
 pub use kind::Kind;
 pub use listing::listing;
 pub use reply::{read_reply, Reply, ReplyFields};

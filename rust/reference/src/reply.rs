@@ -58,9 +58,9 @@ pub struct Reply<'a> {
 }
 
 /// Reads a reply frame (PROFILE 6.3). It is refused with 203 unless its length
-/// and version are right, the status is 0 to 7, the body is of its kind's shape
-/// at status 0 and empty at any other, and the bit of the count is set only where
-/// the reply has a count, and always where this is not 0.
+/// and version are right, the status is 0 to 7 or 9, the body is of its kind's
+/// shape at status 0 and empty at any other, and the bit of the count is set only
+/// where the reply has a count, and always where this is not 0.
 pub fn read_reply(bytes: &[u8]) -> Result<Reply<'_>, u16> {
     read(bytes).ok_or(NO_REPLY)
 }

@@ -20,11 +20,13 @@ pub enum Status {
     UnexpectedRequest = 6,
     /// No slot is empty, or the length is more than there is room for.
     NotEnoughSpace = 7,
+    /// The count returned would raise the one that was lent.
+    CountRaised = 9,
 }
 
 impl Status {
     /// All statuses, in the order of their numbers.
-    pub const ALL: [Status; 8] = [
+    pub const ALL: [Status; 9] = [
         Status::Success,
         Status::FieldIntegrityVerificationFailed,
         Status::ParameterFailed,
@@ -33,16 +35,17 @@ impl Status {
         Status::DuplicateHandle,
         Status::UnexpectedRequest,
         Status::NotEnoughSpace,
+        Status::CountRaised,
     ];
 
-    /// The status of this number; `None` unless it is 0 to 7.
+    /// The status of this number; `None` unless it is 0 to 7 or 9.
     pub fn from_number(number: u8) -> Option<Status> {
         Status::ALL
             .into_iter()
             .find(|status| status.number() == number)
     }
 
-    /// The number of this status, 0 to 7.
+    /// The number of this status, 0 to 7 or 9.
     pub fn number(self) -> u8 {
         self as u8
     }

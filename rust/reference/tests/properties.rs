@@ -8,14 +8,15 @@ use random::Rng;
 use reference::ledger::{agrees, Ledger, Right, Standing};
 use reference::ReadRequest::{NoFrame, Refused, Request};
 use reference::{read_reply, read_request, salvage, turn, well_formed, write_request};
-use reference::{Count, Fields, Kind, Reply, Tally};
+use reference::{Count, CountsTold, Fields, Kind, Reply, Tally};
 use reference::{HASH_BYTES, MAX_SLOTS, REPLY_ROOM, SLOT_BYTES};
 use std::collections::BTreeSet;
 
-/// A table with its history.
+/// A table with its history, and the counts that it told last.
 struct Card {
     table: Vec<u8>,
     ledger: Ledger,
+    counts: CountsTold,
 }
 
 impl Card {
@@ -23,13 +24,18 @@ impl Card {
         Card {
             table: blank(slots),
             ledger: Ledger::new(),
+            counts: CountsTold::default(),
         }
     }
 
     /// A card with this table, whose history starts from it.
     fn on(table: Vec<u8>) -> Self {
         let ledger = Ledger::read_off(&table).expect("a well-formed table");
-        Card { table, ledger }
+        Card {
+            table,
+            counts: CountsTold::of(&ledger),
+            ledger,
+        }
     }
 
     /// Makes one call, from a slot of the table, and asserts what must hold of
@@ -62,6 +68,7 @@ impl Card {
         }
         assert!(well_formed(&self.table));
         agrees(&self.ledger, &self.table).expect("the table agrees with the history");
+        self.counts.go_on(&self.ledger).expect("no count rises");
         Some((reply.kind, status))
     }
 
@@ -132,7 +139,7 @@ fn statuses_by_kind() -> BTreeSet<(u8, u8)> {
         (2, &[0, 1, 2, 4, 6, 7]),
         (3, &[0, 1, 2, 4, 5, 6]),
         (4, &[0, 1, 2, 4, 5, 6]),
-        (5, &[0, 1, 2, 4, 6]),
+        (5, &[0, 1, 2, 4, 6, 9]),
         (6, &[0, 1, 2, 4, 6]),
         (7, &[0, 1, 2, 4, 6]),
         (8, &[0, 2]),

@@ -103,7 +103,7 @@ fn fields_of_each_success() {
 #[test]
 fn a_status_other_than_0_has_an_empty_body_and_any_kind() {
     for kind in 0..32 {
-        for number in 1..=7 {
+        for number in [1, 2, 3, 4, 5, 6, 7, 9] {
             let frame = reply_bytes(kind, number, &[]);
             let reply = read_reply(&frame).expect("a refusal");
             assert_eq!((reply.kind, reply.status.number()), (kind, number));
@@ -112,8 +112,8 @@ fn a_status_other_than_0_has_an_empty_body_and_any_kind() {
                 assert!(!accepted(kind, number, &vec![0; body]));
             }
         }
-        // 8 to 127 are no status, and a refusal has no count
-        for number in 8..=255 {
+        // 8 and 10 to 127 are no status, and a refusal has no count
+        for number in [8].into_iter().chain(10..=255) {
             assert!(!accepted(kind, number, &[]), "status {number}");
         }
     }

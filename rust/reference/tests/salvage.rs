@@ -53,14 +53,19 @@ fn assert_refused(number: u16, before: &[u8], room: usize, what: &str) {
 /// `worn` ones have `01` in byte 191.
 fn case_slot(name: &str) -> Vec<u8> {
     let a: Vec<u8> = (0xA0..=0xB3).collect();
-    let installation = [&H1[..], &K, &[0, 0, 0x10], &a, &P5].concat();
+    let case = name.trim_start_matches("worn ");
+    let (second, count) = match case {
+        "11" => (0xC0, 7),
+        _ => (0x80, 0),
+    };
+    let installation = [&H1[..], &K, &[0, count, 0x10], &a, &P5].concat();
     let requests = [
         request_bytes(1, 0x80, &[&H1[..], &[0, 5]].concat()),
-        request_bytes(2, 0x80, &installation),
+        request_bytes(2, second, &installation),
         request_bytes(4, 0x80, &[H1, H2].concat()),
         request_bytes(5, 0xC0, &[&H2[..], &[0, 3]].concat()),
     ];
-    let made = match name.trim_start_matches("worn ") {
+    let made = match case {
         "blank" => 0,
         "1" => 1,
         "7" => 2,

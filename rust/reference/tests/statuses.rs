@@ -61,8 +61,11 @@ fn statuses_of_requests_about_a_mixed_table() {
         (4, lending(ENABLED, ABSENT), 0),
         (5, returning(ABSENT, Kept(1)), 4),
         (5, returning(RESERVED, Kept(1)), 6),
-        (5, returning(ENABLED, Kept(1)), 0),
-        (5, returning(DISABLED, Kept(1)), 0),
+        (5, returning(ENABLED, Kept(0xFFFF)), 0),
+        // the right under it was lent with a count of 0x103
+        (5, returning(DISABLED, Kept(0x103)), 0),
+        (5, returning(DISABLED, Kept(0x104)), 9),
+        (5, about(DISABLED), 9),
         (6, about(ABSENT), 4),
         (6, about(RESERVED), 6),
         (6, about(ENABLED), 0),
@@ -142,10 +145,10 @@ fn successes_change_these_bytes_and_no_other() {
         ),
         (
             5,
-            returning(DISABLED, Kept(0x0A0B)),
+            returning(DISABLED, Kept(0x00FE)),
             with_slot(2, |slot| {
                 slot[0] = 0x80 + 8 * 4 + 2;
-                slot[27..29].copy_from_slice(&[0x0A, 0x0B]);
+                slot[27..29].copy_from_slice(&[0x00, 0xFE]);
             }),
         ),
         (5, returning(ENABLED, Kept(0x0A0B)), mixed_table()),

@@ -4,7 +4,8 @@
 mod common;
 
 use common::{
-    about, blank, call, call_for, mixed_table, mixed_without_hashes, setup, tally_of, FILLER,
+    about, blank, call, call_for, mixed_table, mixed_without_hashes, returning, setup, tally_of,
+    FILLER,
 };
 use reference::slot::{self, Place};
 use reference::{listing, table, well_formed, Count};
@@ -255,7 +256,7 @@ fn numbers_are_tested_in_order() {
 #[test]
 fn a_buffer_of_4279_bytes_takes_the_longest_reply() {
     let mut table = mixed_table();
-    call_for(0, &mut table, 5, &about(5));
+    call_for(0, &mut table, 5, &returning(5, Count::Kept(7)));
     let frame = [&[0x23, 0x80, 0, 20][..], &[5; 10], &[6; 10]].concat();
     let mut tally = tally_of(&table);
     let mut reply = vec![FILLER; 4279];
@@ -264,7 +265,7 @@ fn a_buffer_of_4279_bytes_takes_the_longest_reply() {
     assert_eq!(call_into(&mut reply[1..]), 101);
     assert_eq!(reply, vec![FILLER; 4279]);
     assert_eq!(call_into(&mut reply), 0);
-    assert_eq!(reply[..4], [0x23, 0, 0x10, 0xB3]);
+    assert_eq!(reply[..4], [0x23, 0x80, 0x10, 0xB3]);
     assert_eq!(4 + 0x10B3, 4279);
     assert_eq!(reply[4278], 0xFF);
 }

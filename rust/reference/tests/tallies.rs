@@ -5,7 +5,7 @@ mod common;
 
 use common::{
     about, blank, call_with, failures, frame_bytes, lending, mixed_table, mixed_without_hashes,
-    returning, right, setup, successes, tally_of, uncounted, Asker, Given, OwnFields, FILLER, NEW,
+    returning, right, setup, successes, tally_of, Asker, Given, OwnFields, FILLER, NEW,
 };
 use random::Rng;
 use reference::ReadRequest::Request;
@@ -40,18 +40,25 @@ fn step(table: &mut [u8], before: [u16; 5], kind: u8, fields: &OwnFields, after:
 /// Case 20 of the card profile. Room that is only reserved is not in the sum.
 #[test]
 fn case_20_a_right_comes_is_lent_comes_back_and_goes() {
-    let table = &mut blank(1);
-    step(table, [1, 0, 0, 0, 0], 1, &setup(1, 5), [0, 1, 0, 0, 0]);
-    let installation = uncounted(right(1, 1, 5));
-    step(table, [0, 1, 0, 0, 0], 2, &installation, [0, 0, 1, 0, 5]);
-    step(table, [0, 0, 1, 0, 5], 4, &lending(1, 2), [0, 0, 0, 1, 5]);
-    let lent = &mut table.clone();
-    for before in [[0, 0, 0, 1, 5], [0, 0, 1, 0, 5]] {
-        let back = returning(2, Count::Kept(3));
+    let lent_with = |count| {
+        let table = &mut blank(1);
+        let installation = OwnFields {
+            count,
+            ..right(1, 1, 5)
+        };
+        step(table, [1, 0, 0, 0, 0], 1, &setup(1, 5), [0, 1, 0, 0, 0]);
+        step(table, [0, 1, 0, 0, 0], 2, &installation, [0, 0, 1, 0, 5]);
+        step(table, [0, 0, 1, 0, 5], 4, &lending(1, 2), [0, 0, 0, 1, 5]);
+        table.clone()
+    };
+    let table = &mut lent_with(Count::Kept(7));
+    for (before, count) in [([0, 0, 0, 1, 5], 3), ([0, 0, 1, 0, 5], 4)] {
+        let back = returning(2, Count::Kept(count));
         step(table, before, 5, &back, [0, 0, 1, 0, 5]);
     }
-    step(lent, [0, 0, 0, 1, 5], 6, &about(2), [1, 0, 0, 0, 0]);
-    assert!(*lent == blank(1));
+    let table = &mut lent_with(Count::NotKept);
+    step(table, [0, 0, 0, 1, 5], 6, &about(2), [1, 0, 0, 0, 0]);
+    assert!(*table == blank(1));
 }
 
 /// Case 21 of the card profile: a tally of zeros is that of no table, and one with
@@ -82,8 +89,8 @@ fn each_kind_changes_the_numbers_that_it_is_said_to() {
         (3, lending(1, NEW), [0, 0, -1, 1, 0]),
         (4, lending(4, NEW), [0, 0, -1, 1, 0]),
         (5, returning(5, Count::Kept(9)), [0, 0, 1, -1, 0]),
-        (5, returning(5, Count::NotKept), [0, 0, 1, -1, 0]),
         (5, returning(1, Count::Kept(9)), [0; 5]),
+        (5, returning(1, Count::NotKept), [0; 5]),
         (6, about(1), [1, 0, -1, 0, -33]),
         (6, about(4), [1, 0, -1, 0, -9]),
         (6, about(5), [1, 0, 0, -1, -4096]),
@@ -102,7 +109,7 @@ fn each_kind_changes_the_numbers_that_it_is_said_to() {
     }
 }
 
-/// Requests that are refused for what the table holds: with 7, 5 and 6.
+/// Requests that are refused for what the table holds: with 7, 5, 6 and 9.
 fn refused_by_the_table() -> Vec<Vec<u8>> {
     let rows = [
         (2, right(2, 1, 8)),
@@ -111,6 +118,8 @@ fn refused_by_the_table() -> Vec<Vec<u8>> {
         (4, lending(5, NEW)),
         (2, right(1, 1, 1)),
         (5, returning(2, Count::Kept(1))),
+        (5, returning(5, Count::Kept(0x104))),
+        (5, returning(5, Count::NotKept)),
         (6, about(2)),
         (7, about(1)),
         (7, about(5)),
@@ -131,7 +140,7 @@ fn a_refused_request_changes_no_number() {
         assert!(table == mixed_table());
         assert_eq!(tally.numbers(), MIXED, "{frame:02x?}");
     }
-    assert_eq!(statuses, BTreeSet::from([1, 2, 3, 4, 5, 6, 7, 104]));
+    assert_eq!(statuses, BTreeSet::from([1, 2, 3, 4, 5, 6, 7, 9, 104]));
 }
 
 /// What a number of the tally may be wrongly: one more or one less, round the

@@ -85,9 +85,9 @@ fn lent(count: Count) -> Vec<u8> {
     table
 }
 
-/// The same card when the right was returned with this count.
+/// The same card when the right was returned with the count that it was lent with.
 fn returned(count: Count) -> Vec<u8> {
-    let mut table = lent(NotKept);
+    let mut table = lent(count);
     call_for(0, &mut table, 5, &returning(2, count));
     table
 }
@@ -111,6 +111,18 @@ fn assert_adds(table: &[u8], sent: Count, before: (i32, u16), after: (i32, u16),
     assert_eq!(lent.totals, expected, "{sent:?} sent");
 }
 
+/// Asserts that a return is refused with 9, and adds nothing.
+fn assert_adds_nothing(table: &[u8], sent: Count, before: (i32, u16)) {
+    let mut lent = Lent::with(table, totals(before.0, before.1));
+    assert_eq!(lent.call(0, &back(sent)), 0);
+    assert_eq!(lent.reply[..4], [0x25, 9, 0, 0]);
+    let expected = Totals {
+        change: 0,
+        ..totals(before.0, before.1)
+    };
+    assert_eq!(lent.totals, expected, "{sent:?} sent");
+}
+
 /// Asserts that a totalling call gives 108; nothing changes then.
 fn assert_108(table: &[u8], frame: &[u8], total: i32, returns: u16) {
     let number = Lent::with(table, totals(total, returns)).call(0, frame);
@@ -121,13 +133,14 @@ fn assert_108(table: &[u8], frame: &[u8], total: i32, returns: u16) {
 #[test]
 fn case_25_what_returns_add() {
     let (lent_1, case_9, case_11) = (lent(Kept(1)), lent(NotKept), returned(Kept(3)));
+    assert_adds_nothing(&lent_1, Kept(4), (-1, 1));
+    assert_adds_nothing(&lent_1, NotKept, (-1, 2));
+    assert_adds_nothing(&case_9, Kept(3), (-1, 2));
     let rows = [
         (&lent_1, Kept(0), (0, 0), (-1, 1), -1),
-        (&lent_1, Kept(4), (-1, 1), (2, 2), 3),
-        (&lent_1, Kept(1), (2, 2), (2, 3), 0),
-        (&lent_1, NotKept, (2, 3), (2, 3), 0),
-        (&case_9, Kept(3), (2, 3), (2, 3), 0),
-        (&case_11, Kept(4), (2, 3), (2, 3), 0),
+        (&lent_1, Kept(1), (-1, 1), (-1, 2), 0),
+        (&case_9, NotKept, (-1, 2), (-1, 2), 0),
+        (&case_11, Kept(4), (-1, 2), (-1, 2), 0),
         (
             &lent_1,
             Kept(0),
@@ -151,24 +164,31 @@ fn case_26_numbers_that_cannot_be_are_108() {
     assert_108(&table[1..], &[], 0, 30_000);
 }
 
-/// Both ends of what a return can do, and what is next to them.
+/// Both ends of what a return can do, and what is next to them. What would be above 0
+/// is refused.
 #[test]
-fn a_change_is_what_was_sent_minus_what_was_stored() {
+fn a_change_is_what_was_sent_minus_what_was_stored_and_never_above_0() {
     let counts = [0, 1, 2, 0xFF, 0x100, 0x7FFF, 0x8000, 0xFFFE, 0xFFFF];
     let mut changes = BTreeSet::new();
     for stored in counts {
         for sent in counts {
+            let table = lent(Kept(stored));
+            if sent > stored {
+                assert_adds_nothing(&table, Kept(sent), (0, 0));
+                continue;
+            }
             let change = i32::from(sent) - i32::from(stored);
-            assert_adds(&lent(Kept(stored)), Kept(sent), (0, 0), (change, 1), change);
+            assert_adds(&table, Kept(sent), (0, 0), (change, 1), change);
             changes.insert(change);
         }
     }
     assert_eq!(changes.first(), Some(&-MOST_CHANGE));
-    assert_eq!(changes.last(), Some(&MOST_CHANGE));
+    assert_eq!(changes.last(), Some(&0));
 }
 
-/// Every row of the table in PROFILE 4.4 that is not counted: a record without a
-/// count, a request without one, neither with one, and a right for use.
+/// Every row of the table in PROFILE 4.4 that is not counted: a right without a count
+/// that is returned without one, and a right for use; and what is refused because one
+/// of them keeps a count and the other none.
 #[test]
 fn returns_that_are_not_counted_change_nothing() {
     let counts = [NotKept, Kept(0), Kept(7), Kept(0xFFFF)];
@@ -179,9 +199,10 @@ fn returns_that_are_not_counted_change_nothing() {
             }
         }
     }
-    for count in counts {
-        assert_adds(&lent(NotKept), count, (-5, 3), (-5, 3), 0);
-        assert_adds(&lent(count), NotKept, (-5, 3), (-5, 3), 0);
+    assert_adds(&lent(NotKept), NotKept, (-5, 3), (-5, 3), 0);
+    for count in [Kept(0), Kept(7), Kept(0xFFFF)] {
+        assert_adds_nothing(&lent(NotKept), count, (-5, 3));
+        assert_adds_nothing(&lent(count), NotKept, (-5, 3));
     }
 }
 
@@ -208,8 +229,9 @@ fn the_second_of_two_returns_is_not_counted() {
     }
 }
 
-/// Returns that are refused with 1, 2, 4 and 6: by their verdict, by a count without
-/// its bit or a zero bit, under no handle of the card, and of a reservation.
+/// Returns that are refused with 1, 2, 4, 6 and 9: by their verdict, by a count without
+/// its bit or a zero bit, under no handle of the card, of a reservation, and for a count
+/// that is more or none.
 fn refused_returns() -> Vec<(u8, Vec<u8>)> {
     let body = |handle: u8| [&[handle; 10][..], &[0, 4]].concat();
     vec![
@@ -220,6 +242,8 @@ fn refused_returns() -> Vec<(u8, Vec<u8>)> {
         (4, request_bytes(5, 0xC0, &body(NEW))),
         (4, request_bytes(5, 0xC0, &body(3))),
         (6, request_bytes(5, 0xC0, &body(2))),
+        (9, frame_bytes(5, &returning(5, Kept(0x104)))),
+        (9, frame_bytes(5, &returning(5, NotKept))),
     ]
 }
 
@@ -256,13 +280,15 @@ fn what_is_no_return_adds_nothing() {
 /// and one outside them.
 #[test]
 fn a_total_is_at_most_65_535_for_each_return() {
-    let table = lent(Kept(1));
+    let (table, uncounted) = (lent(Kept(1)), lent(NotKept));
     for returns in [0, 1, 2, 29_998, 29_999] {
         let most = 65_535 * i32::from(returns);
         for sign in [-1, 1] {
             let end = sign * most;
             assert_adds(&table, Kept(0), (end, returns), (end - 1, returns + 1), -1);
-            assert_adds(&table, NotKept, (end, returns), (end, returns), 0);
+            assert_adds(&table, Kept(1), (end, returns), (end, returns + 1), 0);
+            assert_adds(&uncounted, NotKept, (end, returns), (end, returns), 0);
+            assert_adds_nothing(&table, Kept(2), (end, returns));
             assert_108(&table, &back(Kept(0)), end + sign, returns);
             assert_108(&table, &back(Kept(0)), sign * 65_536 * 30_000, returns);
         }
@@ -270,28 +296,34 @@ fn a_total_is_at_most_65_535_for_each_return() {
             assert_108(&table, &back(Kept(0)), total, returns);
         }
         if returns > 0 {
-            assert_adds(&table, Kept(2), (most - 1, returns), (most, returns + 1), 1);
-            assert_adds(
-                &table,
-                Kept(1),
-                (1 - most, returns),
-                (1 - most, returns + 1),
-                0,
-            );
+            for inside in [most - 1, 1 - most] {
+                let after = (inside - 1, returns + 1);
+                assert_adds(&table, Kept(0), (inside, returns), after, -1);
+            }
         }
     }
 }
 
-/// The ends are reached and not passed: the least and the greatest total that there
-/// can be is a sum of 30,000 changes.
+/// The least total that there can be is a sum of 30,000 changes, and has room.
 #[test]
-fn the_greatest_totals_have_room() {
-    let most = 65_535 * 29_999;
-    for (stored, sent, sign) in [(0, 0xFFFF, 1), (0xFFFF, 0, -1)] {
-        let (before, after) = (sign * most, sign * 1_966_050_000);
-        let change = sign * MOST_CHANGE;
-        let (before, after) = ((before, 29_999), (after, 30_000));
-        assert_adds(&lent(Kept(stored)), Kept(sent), before, after, change);
+fn the_least_total_has_room() {
+    let (before, after) = ((-65_535 * 29_999, 29_999), (-1_966_050_000, 30_000));
+    assert_adds(&lent(Kept(0xFFFF)), Kept(0), before, after, -MOST_CHANGE);
+}
+
+/// A total above 0 that the caller hands over, within the bounds: it falls, also below
+/// 0, or stays.
+#[test]
+fn a_total_above_0_is_carried_on() {
+    let table = lent(Kept(0xFFFF));
+    for (total, returns) in [(1, 1), (65_535, 1), (7, 29_999), (1_965_984_465, 29_999)] {
+        let before = (total, returns);
+        for sent in [0xFFFF, 0xFFFE, 0] {
+            let change = i32::from(sent) - 0xFFFF;
+            let after = (total + change, returns + 1);
+            assert_adds(&table, Kept(sent), before, after, change);
+        }
+        assert_adds_nothing(&table, NotKept, before);
     }
 }
 
@@ -398,12 +430,13 @@ fn the_sum_over_one_card_is_what_its_count_has_changed_by() {
     let mut lent = Lent::with(&holding(Kept(40_000)), totals(0, 0));
     let mut rng = Rng::announced("a count over many returns");
     let mut handle = 1;
+    let mut count = 40_000;
     for returns in 1..=300 {
         let next = 3 - handle;
         let lending = frame_bytes(4, &lending(handle, next));
         assert_eq!((lent.call(0, &lending), lent.totals.change), (0, 0));
         handle = next;
-        let count = rng.word();
+        count -= rng.pick(&[0, 1, 2, 255, 256, 300]).min(count);
         let back = frame_bytes(5, &returning(handle, Kept(count)));
         assert_eq!(lent.call(0, &back), 0);
         assert_eq!(lent.totals.total, i32::from(count) - 40_000);
@@ -465,27 +498,34 @@ fn follow(rng: &mut Rng, table: &[u8], calls: usize) -> BTreeSet<i32> {
         let Totals { total, returns, .. } = lent.totals;
         assert_eq!(lent.totals.change, change.unwrap_or(0), "{frame:02x?}");
         assert_eq!((total.into(), returns.into()), (told.total, told.returns));
+        assert!(total <= 0, "a total from 0 is never above 0");
         assert!(before != lent.table || lent.totals.change == 0);
         signs.extend(change.map(i32::signum));
     }
     signs
 }
 
-/// A frame, one in three of which lends or returns some record of the table, if
-/// there is any.
+/// A frame. Half of them are about some record of the table, if there is any: a right is
+/// installed with a count, lent, returned with its count or a smaller one, or removed.
 fn next_frame(rng: &mut Rng, asker: &Asker, table: &[u8]) -> Vec<u8> {
     let slots = table.chunks(SLOT_BYTES);
     let records: Vec<&[u8]> = slots.filter(|slot| slot[0] != 0).collect();
-    if records.is_empty() {
+    if records.is_empty() || rng.one_in(2) {
         return asker.frame(rng);
     }
     let record = rng.pick(&records);
-    let (handle, count) = (&record[1..11], &record[27..29]);
-    match rng.below(9) {
-        0 => request_bytes(4, 0x80, &[handle, &[rng.byte(); 10]].concat()),
-        1 => request_bytes(5, 0xC0, &[handle, &rng.bytes(2)].concat()),
-        2 => request_bytes(5, 0xC0, &[handle, count].concat()),
-        _ => asker.frame(rng),
+    let (place, handle, count) = (record[0] >> 6, &record[1..11], &record[27..29]);
+    let about = |kind, second, rest: &[u8]| request_bytes(kind, second, &[handle, rest].concat());
+    match (place, rng.below(6)) {
+        (1, _) => about(
+            2,
+            0xC0,
+            &[&[7; 16][..], &rng.bytes(2), &[0x10], &[9; 21]].concat(),
+        ),
+        (_, 0) => about(6, 0x80, &[]),
+        (2, _) => about(4, 0x80, &[rng.byte(); 10]),
+        (_, 1..3) => about(5, 0xC0, count),
+        _ => about(5, 0xC0, &[rng.below(1 + usize::from(count[0])) as u8, 0]),
     }
 }
 
@@ -512,7 +552,7 @@ fn the_ledger_tells_total_and_returns() {
     tables.extend(mended_tables());
     for table in tables {
         let signs = follow(&mut rng, &table, 1_500);
-        assert_eq!(signs, BTreeSet::from([-1, 0, 1]));
+        assert_eq!(signs, BTreeSet::from([-1, 0]));
     }
 }
 
@@ -586,8 +626,8 @@ fn a_ledger_tells_by_the_count_that_the_lent_right_has() {
         (1, setup(1, 5)),
         (2, counted(5)),
         (4, lending(1, 2)),
-        (5, returning(2, Kept(8))),
-        (5, returning(2, Kept(3))),
+        (5, returning(2, Kept(2))),
+        (5, returning(2, Kept(1))),
     ];
     for (kind, fields) in steps {
         let frame = frame_bytes(kind, &fields);
@@ -597,5 +637,5 @@ fn a_ledger_tells_by_the_count_that_the_lent_right_has() {
         told.extend(ledger.change_told(&request, 0));
         ledger.tell(&request, 0);
     }
-    assert_eq!(told, [-30, -1, 3]);
+    assert_eq!(told, [-30, -1, -3]);
 }

@@ -154,12 +154,12 @@ fn they_are_retrieved_like_any_other_and_installed_nowhere() {
     assert_eq!(write_request(2, &again.handed(), &mut [0; 100]), 202);
 }
 
-/// A return stores the count, with its bit or without, and once only.
+/// A return stores the count, which is at most 0x103, and once only.
 #[test]
 fn they_are_returned_like_any_other() {
-    for (count, byte_0) in [(Count::Kept(0x0A0B), 0x82), (Count::NotKept, 0x80)] {
+    for count in [0x103, 0xFE, 0].map(Count::Kept) {
         let returned = with_slot(SLOT_OF_DISABLED, |slot| {
-            slot[0] = byte_0;
+            slot[0] = 0x82;
             slot[27..29].copy_from_slice(&count.number().to_be_bytes());
         });
         let reply = [0x25, 0, 0, 0];

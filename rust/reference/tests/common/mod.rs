@@ -348,6 +348,7 @@ pub fn failures() -> Vec<Vec<u8>> {
     frames.push(request_bytes(1, 0x81, &[NEW; 12]));
     frames.push(frame_bytes(2, &right(2, 0, 7)));
     frames.push(frame_bytes(6, &about(NEW)));
+    frames.push(frame_bytes(5, &returning(5, Count::Kept(0xFFFF))));
     frames.push(frame_bytes(9, &about(5)));
     let unknown = (0..32).filter(|kind| !(1..=9).contains(kind));
     frames.extend(unknown.map(|kind| request_bytes(kind, 0x80, &[])));
@@ -387,6 +388,12 @@ pub fn returning(handle: u8, count: Count) -> OwnFields {
         count,
         ..about(handle)
     }
+}
+
+/// Whether a return with the second count is refused with 9 where the first was lent
+/// (PROFILE 5.5), worked out without the library.
+pub fn is_raised(lent: Count, sent: Count) -> bool {
+    lent.is_kept() != sent.is_kept() || sent.number() > lent.number()
 }
 
 /// The fields of an installation, or of a return, that keeps no count.
