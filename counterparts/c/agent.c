@@ -23,7 +23,7 @@ enum { SLOT = 4288, SLOTS = 15, HANDLE = 10, KEY = 16, HASH = 20, HASHES = 8, PA
 enum { AT_HANDLE = 1, AT_KEY = 11, AT_COUNT = 27, AT_LENGTH = 29, AT_HASHES = 31, AT_ZERO = 191, AT_PAYLOAD = 192 };
 enum { EMPTY, RESERVED, ENABLED, DISABLED };
 enum { SPARE = 0x01, KEPT = 0x02 }; /* bits of a slot's first byte; KEPT: a count is kept */
-enum { SUCCESS, INTEGRITY, PARAMETER, UNSUPPORTED, NOT_FOUND, DUPLICATE, UNEXPECTED, NO_SPACE };
+enum { SUCCESS, INTEGRITY, PARAMETER, UNSUPPORTED, NOT_FOUND, DUPLICATE, UNEXPECTED, NO_SPACE, RAISED = 9 };
 
 /* ---- bytes */
 static unsigned word(const uint8_t *s) { return (unsigned)s[0] << 8 | s[1]; }
@@ -228,10 +228,16 @@ static unsigned lend(struct call *c, uint8_t *s, bool whole) {
     return SUCCESS;
 }
 
+/* Whether the count sent raises that of a slot. Where neither is kept, both numbers are 0. */
+static bool raises(const struct call *c, const uint8_t *s) {
+    return c->kept != (s[0] & KEPT) || word(c->body + HANDLE) > word(s + AT_COUNT);
+}
+
 static unsigned enable(struct call *c, uint8_t *s) {
     if (place_of(s) == RESERVED) return UNEXPECTED;
     if (place_of(s) == DISABLED) {
-        s[0] = (uint8_t)(ENABLED << 6 | hashes_of(s) << 2 | c->kept);
+        if (raises(c, s)) return RAISED;
+        s[0] ^= (ENABLED ^ DISABLED) << 6; /* the count's bit is what it was */
         memcpy(s + AT_COUNT, c->body + HANDLE, 2);
         c->tally->disabled--;
         c->tally->enabled++;

@@ -12,6 +12,7 @@ pub enum Status {
     Duplicate = 5,
     Unexpected = 6,
     NoSpace = 7,
+    Raised = 9,
 }
 
 /// The head and the body of a frame, if the bytes are one.

@@ -1,7 +1,7 @@
 //! What each kind of request does.
 
 use crate::requests::{self, Status};
-use crate::slots::{self, find, handle, hashes, length, place, Handle, Slot};
+use crate::slots::{count, find, handle, hashes, length, place, Handle, Slot, KEPT};
 use crate::slots::{
     AT_COUNT, AT_HASHES, AT_KEY, AT_LENGTH, AT_PAYLOAD, HANDLE, HASH, PAYLOAD, SLOT, SLOTS,
 };
@@ -53,7 +53,7 @@ fn kept_asked(head: &[u8; 4]) -> u8 {
 
 /// The count's bit of a slot, as a reply has it.
 fn kept_told(s: &Slot) -> u8 {
-    (s[0] & slots::KEPT) << 6
+    (s[0] & KEPT) << 6
 }
 
 fn set_up(slots: &mut [Slot], tally: &mut Tally, start: usize, body: &[u8]) -> Answer {
@@ -144,8 +144,13 @@ fn enable(s: &mut Slot, tally: &mut Tally, kept: u8, body: &[u8]) -> Answer {
     match place(s) {
         RESERVED => return Err(Status::Unexpected),
         DISABLED => {
-            s[0] = ENABLED << 6 | (hashes(s) as u8) << 2 | kept;
-            s[AT_COUNT..AT_LENGTH].copy_from_slice(&body[10..12]);
+            let sent = [body[HANDLE], body[HANDLE + 1]];
+            // where neither is kept, both numbers are 0
+            if kept != s[0] & KEPT || u16::from_be_bytes(sent) > count(s) {
+                return Err(Status::Raised);
+            }
+            s[0] ^= (ENABLED ^ DISABLED) << 6; // the count's bit is what it was
+            s[AT_COUNT..AT_LENGTH].copy_from_slice(&sent);
             tally.moved(DISABLED, ENABLED);
         }
         _ => {}

@@ -49,6 +49,11 @@ pub fn hashes(s: &Slot) -> usize {
     usize::from(s[0] >> 2 & 15)
 }
 
+/// The count number, whatever the bit says.
+pub fn count(s: &Slot) -> u16 {
+    u16::from_be_bytes([s[AT_COUNT], s[AT_COUNT + 1]])
+}
+
 pub fn length(s: &Slot) -> usize {
     usize::from(u16::from_be_bytes([s[AT_LENGTH], s[AT_LENGTH + 1]]))
 }
