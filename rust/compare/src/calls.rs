@@ -9,19 +9,20 @@ use crate::card::{histories, Card, Handed, History};
 use crate::device;
 use crate::frames::Asker;
 use crate::mended::{Began, Mended};
-use crate::outcome::{none_comes, Counted, Counts, Outcome};
-use crate::outcome::{Return, Returns, Search, Searches, Unhashed};
+use crate::outcome::{none_comes, Counts, Outcome, Search, Searches, Unhashed};
 use crate::pipeline::{self, Giver};
 use crate::refusals::{Precedence, Regardless};
+use crate::returned::Returned;
+use crate::returns::frame_or_loan;
 use crate::starts::start;
 use crate::steps::{left_right, Difference, Step};
 use crate::tables::{listing_buffer, reply_buffer};
 use crate::tallies::any;
 use driver::{Answers, Call, Listed, Numbers, Read, Same, Tallied};
 use random::Rng;
-use reference::ledger::{agrees, Ledger, Standing};
+use reference::ledger::{agrees, Ledger};
 use reference::number::{DONE, TABLE_NOT_WELL_FORMED, TALLY_DIFFERS};
-use reference::{read_request, Kind, ReadRequest, Request, MAX_SLOTS, SLOT_BYTES};
+use reference::{read_request, CountsTold, ReadRequest, MAX_SLOTS, SLOT_BYTES};
 use std::collections::BTreeMap;
 use std::io::Result;
 
@@ -79,8 +80,8 @@ struct Expected {
 pub struct Seen {
     /// The outcomes of the calls.
     pub calls: Counts,
-    /// The returns that succeeded.
-    pub returns: Returns,
+    /// The returns of rights that were on the card.
+    pub returns: BTreeMap<Returned, u64>,
     /// The setups that looked for an empty slot.
     pub searches: Searches,
     /// What came of requests about rights without a hash.
@@ -219,7 +220,7 @@ fn call(
     let handed = Handed {
         tally: card.lend(rng, history.wrong_in()),
         start: start(rng, card.table.len() / SLOT_BYTES, history.outside_in()),
-        frame: asker.frame(rng),
+        frame: frame_or_loan(rng, asker, &card.table),
     };
     let carried_on = history != History::Apart && handed.tally == card.tally;
     let before = card.table.clone();
@@ -273,6 +274,7 @@ struct Checker {
     checked: u64,
     seen: Seen,
     ledger: Ledger,
+    counts: CountsTold,
     began: Began,
 }
 
@@ -283,6 +285,10 @@ impl Checker {
             let outcome = Outcome::of(call.number, frame, &call.reply);
             self.seen.note(outcome, expected)?;
             self.seen.note_unhashed(&expected.before, frame, given)?;
+            let returned = Returned::of(&expected.before, call.number, frame, &call.reply);
+            if let Some(returned) = returned {
+                *self.seen.returns.entry(returned).or_default() += 1;
+            }
             let first = first_line(&given.listed);
             *self.seen.listings.entry(first).or_default() += 1;
             self.follow(expected, outcome, &call.table)
@@ -299,7 +305,7 @@ impl Checker {
 
     /// Compares a table with its history, told by requests and statuses. The ledger
     /// is read off the table once, where the history begins. No call of the history
-    /// gives 103 (PROFILE 8.3).
+    /// gives 103, and no count rises (PROFILE 8.3).
     fn follow(&mut self, call: &Expected, outcome: Outcome, table: &[u8]) -> Same {
         match call.history {
             History::Apart => return Ok(()),
@@ -307,6 +313,7 @@ impl Checker {
                 self.began = began;
                 self.ledger = Ledger::read_off(&call.before)
                     .map_err(|number| format!("the table at first is refused with {number}"))?;
+                self.counts = CountsTold::of(&self.ledger);
             }
             History::GoesOn => {}
         }
@@ -315,7 +322,8 @@ impl Checker {
         }
         *self.seen.told.entry(self.began).or_default() += 1;
         self.tell(&call.handed.frame, outcome);
-        agrees(&self.ledger, table)
+        agrees(&self.ledger, table)?;
+        self.counts.go_on(&self.ledger)
     }
 
     /// Tells the ledger the request, if the frame is one and had a reply.
@@ -323,26 +331,8 @@ impl Checker {
         if let (Outcome::Replied { status, .. }, ReadRequest::Request(request)) =
             (outcome, read_request(frame))
         {
-            if status == 0 && request.kind == Kind::RightsEnablement {
-                self.note_return(&request);
-            }
             self.ledger.tell(&request, status);
         }
-    }
-
-    /// Notes a return, by the ledger as it is before it.
-    fn note_return(&mut self, request: &Request<'_>) {
-        let fields = &request.fields;
-        let mut rights = self.ledger.rights().iter();
-        let returned = rights
-            .find(|right| right.standing != Standing::Gone && right.handle == fields.handle)
-            .expect("the ledger agreed with the table, which has the right");
-        let noted = Return {
-            lent: returned.standing == Standing::Lent,
-            before: Counted::of(returned.count),
-            sent: Counted::of(fields.count),
-        };
-        *self.seen.returns.entry(noted).or_default() += 1;
     }
 }
 

@@ -446,7 +446,7 @@ impl Asker {
     /// a count.
     fn reply(&self, rng: &mut Rng) -> Vec<u8> {
         let mut reply = match rng.below(4) {
-            0 => frame(rng.below(32) as u8, rng.below(10) as u8, &[]),
+            0 => frame(rng.below(32) as u8, rng.below(11) as u8, &[]),
             _ => {
                 let kind = 1 + rng.below(9) as u8;
                 let count = count(rng);

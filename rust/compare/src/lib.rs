@@ -20,6 +20,7 @@
 //! | [`device`] | requests written and replies read, at random |
 //! | [`totals`] | totals at random, right and wrong ones |
 //! | [`returns`] | frames by which the rights of a table are lent and returned |
+//! | [`returned`] | how the counts of returns compared with those stored, and their statuses |
 //! | [`totalling`] | totalling calls, made at random and checked |
 //! | [`to_the_end`] | totals that are carried on until no return has room |
 //! | [`total_rules`] | what holds of every totalling call |
@@ -54,6 +55,7 @@ pub mod outcome;
 pub mod pair;
 pub mod pipeline;
 pub mod refusals;
+pub mod returned;
 pub mod returns;
 pub mod salvage;
 pub mod salvage_rules;

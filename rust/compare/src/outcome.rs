@@ -111,26 +111,6 @@ impl fmt::Display for Outcome {
     }
 }
 
-/// A return that succeeded.
-#[derive(Clone, Copy, Debug, PartialEq, Eq, PartialOrd, Ord)]
-pub struct Return {
-    /// Whether the right was lent, so that the count sent is kept; of a right for
-    /// use nothing changes.
-    pub lent: bool,
-    /// The count before.
-    pub before: Counted,
-    /// The count sent.
-    pub sent: Counted,
-}
-
-impl fmt::Display for Return {
-    fn fmt(&self, f: &mut fmt::Formatter<'_>) -> fmt::Result {
-        let right = if self.lent { "lent" } else { "for use" };
-        let Return { before, sent, .. } = self;
-        write!(f, "return of a right {right}: {before}, then {sent} sent")
-    }
-}
-
 /// Which slot a setup took, as seen from its start.
 #[derive(Clone, Copy, Debug, PartialEq, Eq, PartialOrd, Ord)]
 pub enum Taken {
@@ -367,9 +347,6 @@ impl fmt::Display for Unhashed {
 /// How often each outcome occurred.
 pub type Counts = BTreeMap<Outcome, u64>;
 
-/// How often each return occurred.
-pub type Returns = BTreeMap<Return, u64>;
-
 /// How often each search occurred.
 pub type Searches = BTreeMap<Search, u64>;
 
@@ -379,7 +356,8 @@ fn statuses(kind: u8) -> &'static [u8] {
         1 => &[0, 1, 2, 5, 7],
         2 => &[0, 1, 2, 4, 6, 7],
         3 | 4 => &[0, 1, 2, 4, 5, 6],
-        5..=7 => &[0, 1, 2, 4, 6],
+        5 => &[0, 1, 2, 4, 6, 9],
+        6 | 7 => &[0, 1, 2, 4, 6],
         8 => &[0, 2],
         9 => &[0, 2, 4, 6],
         _ => &[2, 3],
@@ -413,18 +391,6 @@ pub fn that_can_occur() -> Vec<Outcome> {
         }
     }
     outcomes
-}
-
-/// Every return that can occur: from each count to each, for rights lent and for
-/// use.
-pub fn returns_that_can_occur() -> Vec<Return> {
-    let mut returns = Vec::new();
-    for lent in [false, true] {
-        for before in Counted::COUNTS {
-            returns.extend(Counted::COUNTS.map(|sent| Return { lent, before, sent }));
-        }
-    }
-    returns
 }
 
 /// Every search that can occur: below slot 0 there is none to be taken.

@@ -18,8 +18,8 @@ const MORE: u64 = 20;
 /// The second byte of a request with the verdict 1 and a kept count.
 const KEPT: u8 = 0xC0;
 
-/// Lends a right on one card and takes it back by turns, from a blank table on, with
-/// any counts. Gives what occurred.
+/// Lends a right on one card and takes it back by turns, from a blank table on, until it
+/// is used up, and then another. Gives what occurred.
 ///
 /// # Panics
 ///
@@ -29,14 +29,16 @@ pub fn compare_one_card(mut rng: Rng) -> Seen {
         let card = &mut Card::with(blank(1), Began::Blank);
         giver.commands.table(&card.table)?;
         let mut totals = Totals::default();
-        let calls = 2 + 2 * u64::from(MOST_RETURNS) + MORE;
-        for made in 0..calls {
+        let (mut made, mut after) = (0, 0);
+        while after < MORE {
+            after += u64::from(totals.returns == MOST_RETURNS);
             let lent = lend(card, next_frame(&mut rng, &card.table), totals);
             let history = match made {
                 0 => History::Begins(card.began),
                 _ => History::GoesOn,
             };
             totals = call(giver, stands(history, made == 0), card, lent)?;
+            made += 1;
         }
         Ok(())
     })
@@ -85,12 +87,14 @@ fn lend(card: &Card, frame: Vec<u8>, totals: Totals) -> Lent {
     }
 }
 
-/// The next frame for a card of one slot: a setup, an installation, a lending under
-/// one of two handles, or a return with any count.
+/// The next frame for a card of one slot: a setup, an installation with any count, a
+/// lending under one of two handles, a removal if the right is used up, or a return. One
+/// return in eight sends any count, and the others one that is no greater.
 fn next_frame(rng: &mut Rng, table: &[u8]) -> Vec<u8> {
     let record = &table::slots(table)[0];
     let handle = slot::handle(record);
     let other = [if handle[0] == 1 { 2 } else { 1 }; 10];
+    let stored = slot::count_number(record);
     let count = rng.word().to_be_bytes();
     match slot::place(record) {
         Place::Empty => frame(1, 0x80, &[&other[..], &[0, 1]].concat()),
@@ -98,8 +102,15 @@ fn next_frame(rng: &mut Rng, table: &[u8]) -> Vec<u8> {
             let rest = [&[7; 16][..], &count, &[0x10], &[9; 20], &[1]].concat();
             frame(2, KEPT, &[&handle[..], &rest].concat())
         }
+        Place::Enabled if stored == 0 => frame(6, 0x80, &handle),
         Place::Enabled => frame(4, 0x80, &[handle, other].concat()),
-        Place::Disabled => frame(5, KEPT, &[&handle[..], &count].concat()),
+        Place::Disabled => {
+            let count = match rng.below(8) {
+                0 => count,
+                _ => (rng.below(usize::from(stored) + 1) as u16).to_be_bytes(),
+            };
+            frame(5, KEPT, &[&handle[..], &count].concat())
+        }
     }
 }
 

@@ -6,7 +6,7 @@ use crate::totals::{sign, MOST_RETURNS};
 use driver::{Same, Totalled, Totals};
 use reference::ledger::{agrees, Ledger};
 use reference::number::{DONE, TOTAL_OUTSIDE};
-use reference::{read_request, ReadRequest};
+use reference::{read_request, CountsTold, ReadRequest};
 use std::cmp::Ordering;
 use std::fmt;
 
@@ -15,6 +15,7 @@ use std::fmt;
 #[derive(Default)]
 pub struct Told {
     ledger: Ledger,
+    counts: CountsTold,
     total: i64,
     returns: u64,
 }
@@ -28,6 +29,7 @@ impl Told {
     pub fn read_off(&mut self, table: &[u8]) -> Same {
         self.ledger = Ledger::read_off(table)
             .map_err(|number| format!("the table at first is refused with {number}"))?;
+        self.counts = CountsTold::of(&self.ledger);
         Ok(())
     }
 
@@ -47,7 +49,8 @@ impl Told {
     /// # Errors
     ///
     /// A sentence, where the call gave 108 too early or too late, where its numbers
-    /// are not those told, or where table and ledger do not agree.
+    /// are not those told, where table and ledger do not agree, or where a count has
+    /// risen.
     pub fn tell(&mut self, frame: &[u8], given: &Totalled) -> Result<Option<i32>, String> {
         let number = given.call.number;
         if self.is_full() != (number == TOTAL_OUTSIDE) {
@@ -65,6 +68,7 @@ impl Told {
         let returns = self.returns as i64;
         same("returns", given.totals.returns.into(), returns)?;
         agrees(&self.ledger, &given.call.table)?;
+        self.counts.go_on(&self.ledger)?;
         Ok(told)
     }
 
@@ -90,8 +94,8 @@ fn same(what: &str, given: i64, told: i64) -> Same {
 /// What was told along histories.
 #[derive(Clone, Copy, Debug, PartialEq, Eq, PartialOrd, Ord)]
 pub enum Along {
-    /// A counted return, with a change below 0, of 0 or above 0, in a history that
-    /// began with this.
+    /// A counted return, with a change of 0 or below, in a history that began with
+    /// this.
     Counted(Began, Ordering),
     /// The last return that has room.
     Last,
@@ -104,7 +108,7 @@ pub enum Along {
 impl Along {
     /// All that can occur.
     pub fn that_can_occur() -> Vec<Along> {
-        let signs = [Ordering::Less, Ordering::Equal, Ordering::Greater];
+        let signs = [Ordering::Less, Ordering::Equal];
         let mut all = vec![Along::Last, Along::Full, Along::Anew];
         for began in Began::ALL {
             all.extend(signs.map(|sign| Along::Counted(began, sign)));

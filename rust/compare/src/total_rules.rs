@@ -38,8 +38,9 @@ fn nothing_changed(lent: &Lent, given: &Totalled) -> Same {
     same.then_some(()).ok_or("108, and it changed".into())
 }
 
-/// The change is in the total, and in returns one return at most. It is 0 with every
-/// number but 0, where no return is counted, and where the table stays as it was.
+/// The change is in the total, and in returns one return at most. It is never above 0,
+/// and it is 0 with every number but 0, where no return is counted, and where the table
+/// stays as it was.
 fn adds_up(lent: &Lent, given: &Totalled) -> Same {
     let (before, after) = (&lent.totals, &given.totals);
     let added = i64::from(after.total) - i64::from(before.total);
@@ -47,7 +48,7 @@ fn adds_up(lent: &Lent, given: &Totalled) -> Same {
     let changed = given.call.number == DONE && given.call.table != lent.table;
     let holds = added == after.change.into()
         && (0..=1).contains(&counted)
-        && (-MOST_CHANGE..=MOST_CHANGE).contains(&after.change)
+        && (-MOST_CHANGE..=0).contains(&after.change)
         && (counted == 1 || after.change == 0)
         && (changed || counted == 0);
     holds

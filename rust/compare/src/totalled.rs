@@ -59,11 +59,13 @@ pub enum Came {
     /// It had so many returns, close to the most, and a total that can be: it counted
     /// one more, or gave 108.
     Near(u16),
-    /// A return was counted, with a change below 0, of 0 or above 0.
+    /// A return was counted, with a change of 0 or below.
     Counted(Ordering),
-    /// A return was counted, with a change that is the least or the greatest.
-    Most(Ordering),
-    /// A right was returned, but not counted: one of them kept no count.
+    /// A return was counted, with the least change.
+    Least,
+    /// A return was counted, with a change of 0 or below, in a total above 0.
+    CountedAbove(Ordering),
+    /// A right was returned, but not counted.
     Uncounted(Keep),
     /// A right for use was returned once more. Where both keep a count, these differ.
     Again(Keep),
@@ -89,11 +91,15 @@ pub struct Keep {
 }
 
 impl Keep {
-    const BOTH: Keep = Keep::of(true, true);
+    const NEITHER: Keep = Keep {
+        record: false,
+        request: false,
+    };
 
-    const fn of(record: bool, request: bool) -> Keep {
-        Keep { record, request }
-    }
+    const BOTH: Keep = Keep {
+        record: true,
+        request: true,
+    };
 }
 
 impl Came {
@@ -115,17 +121,16 @@ impl Came {
 
     /// All that can occur.
     pub fn that_can_occur() -> Vec<Came> {
-        use Ordering::{Equal, Greater, Less};
+        use Ordering::{Equal, Less};
         let mut all = numbers_that_can_occur();
         all.extend(bounds_that_can_occur());
         all.extend((MOST_RETURNS - 2..=MOST_RETURNS + 1).map(Came::Near));
-        all.extend([Less, Equal, Greater].map(Came::Counted));
-        all.extend([Less, Greater].map(Came::Most));
-        let not_both = [(false, false), (false, true), (true, false)];
-        let not_both = not_both.map(|(record, request)| Keep::of(record, request));
-        all.extend(not_both.map(Came::Uncounted));
-        all.extend(not_both.map(Came::Again));
-        all.push(Came::Again(Keep::BOTH));
+        all.extend([Less, Equal].map(Came::Counted));
+        all.extend([Less, Equal].map(Came::CountedAbove));
+        all.extend([Came::Least, Came::Uncounted(Keep::NEITHER)]);
+        for record in [false, true] {
+            all.extend([false, true].map(|request| Came::Again(Keep { record, request })));
+        }
         let refused = [
             (1, false),
             (1, true),
@@ -133,6 +138,8 @@ impl Came {
             (2, true),
             (4, false),
             (6, false),
+            (9, false),
+            (9, true),
         ];
         all.extend(refused.map(|(status, countable)| Came::Refused { status, countable }));
         all.extend([1, 2, 3, 4, 6, 7, 8, 9].map(Came::Other));
@@ -214,7 +221,7 @@ fn answered(lent: &Lent, given: &Totalled) -> Vec<Came> {
     let frame = &lent.handed.frame;
     let record = record(&lent.table, frame);
     match (kind, status, record) {
-        (5, 0, Some(record)) => returned(record, frame, given.totals.change),
+        (5, 0, Some(record)) => returned(record, lent, given.totals.change),
         (5, status, record) => {
             let countable = record.is_some_and(|record| {
                 slot::place(record) == Place::Disabled && keep(record, frame) == Keep::BOTH
@@ -235,18 +242,23 @@ fn record<'a>(table: &'a [u8], frame: &[u8]) -> Option<&'a SlotBytes> {
 
 /// Which of a record and the frame of a return keep a count.
 fn keep(record: &SlotBytes, frame: &[u8]) -> Keep {
-    Keep::of(slot::kept(record), frame[1] & 0x40 != 0)
+    Keep {
+        record: slot::kept(record),
+        request: frame[1] & 0x40 != 0,
+    }
 }
 
 /// What came of a return that succeeded, with this change.
-fn returned(record: &SlotBytes, frame: &[u8], change: i32) -> Vec<Came> {
+fn returned(record: &SlotBytes, lent: &Lent, change: i32) -> Vec<Came> {
+    let frame = &lent.handed.frame;
     let keep = keep(record, frame);
     let same = slot::count_number(record).to_be_bytes() == frame[14..16];
     match slot::place(record) {
         Place::Disabled if keep == Keep::BOTH => {
             let mut came = vec![Came::Counted(change.cmp(&0))];
-            if change.abs() == MOST_CHANGE {
-                came.push(Came::Most(change.cmp(&0)));
+            came.extend((change == -MOST_CHANGE).then_some(Came::Least));
+            if lent.totals.total > 0 {
+                came.push(Came::CountedAbove(change.cmp(&0)));
             }
             came
         }
@@ -290,7 +302,10 @@ impl fmt::Display for Came {
             }
             Came::Near(returns) => write!(f, "{returns} returns before the call"),
             Came::Counted(change) => write!(f, "counted, change {}", sign(*change)),
-            Came::Most(change) => write!(f, "counted, the most {}", sign(*change)),
+            Came::Least => write!(f, "counted, the least change"),
+            Came::CountedAbove(change) => {
+                write!(f, "counted in a total above 0, change {}", sign(*change))
+            }
             Came::Uncounted(keep) => write!(f, "returned with {keep}"),
             Came::Again(keep) => write!(f, "returned once more, with {keep}"),
             Came::Refused { status, countable } => {

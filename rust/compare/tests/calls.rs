@@ -1,14 +1,15 @@
 //! Calls at random: the archive gives the number, the reply buffer, the table and
-//! the tally that the reference gives, every table agrees with its history, and
-//! every tally with its table. So they do after a salvage and after a turning, with a
+//! the tally that the reference gives, every table agrees with its history, in which
+//! no count rises, and every tally with its table. So they do after a salvage and after a turning, with a
 //! history that starts from the table left. On cards that hold rights without a hash,
 //! all that can come of them does, and no other one comes.
 
 use compare::calls::compare;
 use compare::mended::Began;
-use compare::outcome::{assert_all_occurred, returns_that_can_occur};
+use compare::outcome::assert_all_occurred;
 use compare::outcome::{searches_that_can_occur, that_can_occur, Unhashed};
 use compare::refusals::{Precedence, Regardless};
+use compare::returned::Returned;
 use compare::steps::{Difference, Step};
 use random::{setting, Rng};
 
@@ -23,7 +24,7 @@ fn random_calls_agree_with_the_reference_and_with_their_history() {
     println!("{made} calls");
     assert!(made >= calls);
     assert_all_occurred(&seen.calls, that_can_occur());
-    assert_all_occurred(&seen.returns, returns_that_can_occur());
+    assert_all_occurred(&seen.returns, Returned::that_can_occur());
     assert_all_occurred(&seen.searches, searches_that_can_occur());
     assert_all_occurred(&seen.unhashed, Unhashed::that_can_occur());
     assert_all_occurred(&seen.precedences, Precedence::that_can_occur());

@@ -1,6 +1,7 @@
-//! Cases 13 to 17 and 22 to 24 of the card profile (PROFILE 9.2, 9.3, 9.6, 9.7), what
-//! else is refused for the bit of a count or for a missing hash, and the fullest card
-//! that there can be. All calls have the start 0 and the tally of their table.
+//! Cases 11, 13 to 17, 22 to 24 and 27 of the card profile (PROFILE 9.1 to 9.3, 9.6, 9.7,
+//! 9.9), what else is refused for a count, for its bit or for a missing hash, and the
+//! fullest card that there can be. All calls have the start 0 and the tally of their
+//! table.
 
 use compare::both::Both;
 use compare::frames::{frame, KINDS_OUTSIDE};
@@ -74,7 +75,7 @@ fn case_15_tables_of_other_lengths_are_102() {
     }
 }
 
-/// The handles, the key, the hash and the payload of cases 16, 17 and 22 to 24.
+/// The handles, the key, the hash and the payload of the cases.
 const H1: [u8; 10] = [1; 10];
 const H2: [u8; 10] = [2; 10];
 const K: [u8; 16] = [1, 2, 3, 4, 5, 6, 7, 8, 9, 10, 11, 12, 13, 14, 15, 16];
@@ -138,31 +139,107 @@ fn case_16_a_count_that_is_used_up_stays_used_up() {
     assert!(both.table() == blank(1));
 }
 
-/// Each return stores its bit and its number, whatever stood there: it begins a
-/// count, changes it or ends it. Lending leaves both as they are.
+/// Each return stores its number, from the greatest on down; lending leaves it as it is.
 #[test]
-fn a_return_stores_the_bit_with_the_number() {
-    let both = &mut after_setup(&frame(2, 0x80, &installation(0)));
+fn a_return_stores_the_number() {
+    let both = &mut after_setup(&frame(2, 0xC0, &installation(0xFFFF)));
     let lent = [&[0x24, 0, 0, 16][..], &K].concat();
-    let returned = [0x25, 0, 0, 0];
-    let (mut byte_0, mut number) = (0x84, 0);
-    let (mut from, mut to) = (H1, H2);
-    for (kept, sent) in [
-        (false, 0),
-        (true, 0),
-        (true, 0xFFFF),
-        (false, 0),
-        (true, 1),
-        (true, 0),
-        (false, 0),
-    ] {
+    let (mut number, mut from, mut to) = (0xFFFF, H1, H2);
+    for sent in [0xFFFF, 0xFFFE, 0x8000, 0x7FFF, 0x100, 0xFF, 0xFF, 1, 0, 0] {
         let lending = frame(4, 0x80, &[from, to].concat());
-        step(both, &lending, &lent, byte_0 + 0x40, number);
-        let second = if kept { 0xC0 } else { 0x80 };
-        (byte_0, number) = (if kept { 0x86 } else { 0x84 }, sent);
-        let back = frame(5, second, &[&to[..], &sent.to_be_bytes()].concat());
-        step(both, &back, &returned, byte_0, number);
+        step(both, &lending, &lent, 0xC6, number);
+        number = sent;
+        let back = frame(5, 0xC0, &[&to[..], &sent.to_be_bytes()].concat());
+        step(both, &back, &[0x25, 0, 0, 0], 0x86, number);
         (from, to) = (to, from);
+    }
+}
+
+/// Lends the right under H1 to H2.
+fn lend(both: &mut Both) {
+    reply(both, &frame(4, 0x80, &[H1, H2].concat()));
+}
+
+/// A card with a right that was installed with this second byte and this count, and is
+/// lent under H2: the states 9 and 11, lent.
+fn lent_with(second: u8, count: u16) -> Both {
+    let mut both = after_setup(&frame(2, second, &installation(count)));
+    lend(&mut both);
+    both
+}
+
+/// Case 11: a right with a count is lent and returned with a smaller one, and the
+/// second return changes nothing.
+#[test]
+fn case_11_a_return_sets_the_count_once() {
+    let both = &mut after_setup(&frame(2, 0xC0, &installation(7)));
+    let lent = [&[0x24, 0, 0, 16][..], &K].concat();
+    step(both, &frame(4, 0x80, &[H1, H2].concat()), &lent, 0xC6, 7);
+    for number in [3, 4] {
+        let back = frame(5, 0xC0, &returning(number));
+        step(both, &back, &[0x25, 0, 0, 0], 0x86, 3);
+    }
+}
+
+/// Case 27: a return that would raise the count is status 9, after 2, 1 and 6.
+#[test]
+fn case_27_a_count_that_would_rise_is_9() {
+    let [refused, returned] = [[0x25, 9, 0, 0], [0x25, 0, 0, 0]];
+    let both = &mut lent_with(0xC0, 7);
+    step(both, &frame(5, 0xC0, &returning(8)), &refused, 0xC6, 7);
+    step(both, &frame(5, 0x80, &returning(0)), &refused, 0xC6, 7);
+    for (second, status) in [(0x80, 2), (0x40, 1)] {
+        let sent = frame(5, second, &returning(8));
+        step(both, &sent, &[0x25, status, 0, 0], 0xC6, 7);
+    }
+    step(both, &frame(5, 0xC0, &returning(7)), &returned, 0x86, 7);
+    step(
+        both,
+        &frame(5, 0xC0, &returning(0xFFFF)),
+        &returned,
+        0x86,
+        7,
+    );
+    step(both, &frame(5, 0x80, &returning(0)), &returned, 0x86, 7);
+
+    let both = &mut lent_with(0x80, 0);
+    step(both, &frame(5, 0xC0, &returning(0)), &refused, 0xC4, 0);
+    step(both, &frame(5, 0x80, &returning(0)), &returned, 0x84, 0);
+
+    let both = &mut Both::on(blank(1));
+    reply(both, &setup());
+    let reserved = frame(5, 0xC0, &[&H1[..], &[0, 8]].concat());
+    step(both, &reserved, &[0x25, 6, 0, 0], 0x40, 0);
+}
+
+/// Every pair of counts, both ends among them: what is refused changes nothing, and a
+/// right for use takes no notice.
+#[test]
+fn a_return_is_refused_where_it_would_raise_the_count() {
+    let numbers = [0, 1, 2, 0xFF, 0x100, 0x101, 0x7FFF, 0x8000, 0xFFFE, 0xFFFF];
+    let kept = numbers.map(|number| (0xC0, number));
+    let counts = [&kept[..], &[(0x80, 0)]].concat();
+    for &(second, stored) in &counts {
+        let lent = lent_with(second, stored).table().to_vec();
+        let both = &mut Both::on(lent.clone());
+        for &(other, sent) in &counts {
+            both.go_on(lent.clone());
+            let back = frame(5, other, &returning(sent));
+            let raised = second != other || sent > stored;
+            let status = if raised { 9 } else { 0 };
+            assert_eq!(reply(both, &back), [0x25, status, 0, 0], "{stored}, {sent}");
+            let mut expected = lent.clone();
+            if !raised {
+                expected[0] -= 0x40;
+                expected[27..29].copy_from_slice(&sent.to_be_bytes());
+            }
+            assert!(both.table() == expected, "{stored}, {sent}");
+            let mut for_use = lent.clone();
+            for_use[0] -= 0x40;
+            both.go_on(for_use.clone());
+            assert_eq!(reply(both, &back), [0x25, 0, 0, 0], "{stored}, {sent}");
+            assert!(both.table() == for_use, "{stored}, {sent}: for use");
+        }
     }
 }
 
@@ -386,6 +463,7 @@ fn a_right_is_found_by_each_of_its_hashes() {
 /// 11, and worn ones with `01` in byte 191.
 fn case_24_slots(names: &[&str]) -> Vec<u8> {
     let installed = &frame(2, 0x80, &installation(0));
+    let counted = &frame(2, 0xC0, &installation(7));
     let lent = &frame(4, 0x80, &[H1, H2].concat());
     let returned = &frame(5, 0xC0, &returning(3));
     let mut table = Vec::new();
@@ -395,7 +473,7 @@ fn case_24_slots(names: &[&str]) -> Vec<u8> {
             "1" => &[&setup()],
             "7" => &[&setup(), installed],
             "9" => &[&setup(), installed, lent],
-            "11" => &[&setup(), installed, lent, returned],
+            "11" => &[&setup(), counted, lent, returned],
             _ => panic!("there is no slot {name}"),
         };
         let mut both = Both::on(blank(1));

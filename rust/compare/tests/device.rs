@@ -56,7 +56,8 @@ fn replies_are_read_as_the_reference_reads_them() {
     }
     let mut expected = BTreeSet::from([Told::NOTHING]);
     for kind in 0..32 {
-        expected.extend((1..=7).map(|status| told(kind, status, Counted::Nothing, false)));
+        let refusals = [1, 2, 3, 4, 5, 6, 7, 9];
+        expected.extend(refusals.map(|status| told(kind, status, Counted::Nothing, false)));
         expected.extend(successes(kind));
     }
     let seen: BTreeSet<_> = counts.keys().copied().collect();
@@ -109,10 +110,10 @@ fn assert_accepted(
     assert!(accepted(rng, &every) == expected);
 }
 
-/// The statuses 1 to 7 have no body and come with any kind, and so does 0 with
-/// the kinds that give nothing. 8, and every number over it, is refused with
-/// 203 whatever the kind; with the bit of a count these are the second bytes
-/// from 128 on.
+/// The statuses 1 to 7 and 9 have no body and come with any kind, and so does 0
+/// with the kinds that give nothing. 8, and every number over 9, is refused with
+/// 203 whatever the kind; with the bit of a count these are the second bytes from
+/// 128 on.
 #[test]
 fn replies_without_a_body_are_accepted_by_kind_and_status() {
     assert_accepted(
@@ -120,7 +121,7 @@ fn replies_without_a_body_are_accepted_by_kind_and_status() {
         |_| vec![Vec::new()],
         |kind, second, _| match second {
             0 => [1, 2, 5, 6, 7].contains(&kind),
-            _ => second <= 7,
+            _ => second <= 7 || second == 9,
         },
     );
 }
@@ -137,13 +138,14 @@ fn replies_with_a_body_are_accepted_by_kind_and_bit() {
             .to_vec(),
         9 => numbers.map(|n| [&n[..], &[5]].concat()).to_vec(),
         8 => vec![vec![0]],
-        _ => vec![vec![7; 16]],
+        _ => vec![vec![7; 16], vec![0]],
     };
     assert_accepted(
         Rng::announced("replies with a body"),
         bodies,
         |kind, second, body| match (kind, second) {
-            (3 | 9, 0x80) | (4 | 8, 0) => true,
+            (3 | 9, 0x80) | (8, 0) => true,
+            (4, 0) => body.len() == 16,
             (3, 0) => body[16..18] == [0, 0],
             (9, 0) => body[..2] == [0, 0],
             _ => false,

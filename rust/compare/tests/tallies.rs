@@ -29,9 +29,15 @@ fn installation() -> Vec<u8> {
     frame(2, 0x80, &body)
 }
 
-/// The request of case 11: a return with a kept count of 3.
-fn returning() -> Vec<u8> {
-    frame(5, 0xC0, &[&H2[..], &[0, 3]].concat())
+/// The request of case 11: the same right with a kept count of 7.
+fn counted_installation() -> Vec<u8> {
+    let body = [&H1[..], &[7; 16], &[0, 7, 0x10], &[0xA0; 20], &[0xA1; 5]].concat();
+    frame(2, 0xC0, &body)
+}
+
+/// The requests of case 11: a return with this kept count.
+fn returning(count: u8) -> Vec<u8> {
+    frame(5, 0xC0, &[&H2[..], &[0, count]].concat())
 }
 
 /// Makes a call that is carried out, and asserts the tally before it and after
@@ -51,12 +57,14 @@ fn case_20_a_right_comes_is_lent_comes_back_and_goes() {
     step(both, [1, 0, 0, 0, 0], &setup(), [0, 1, 0, 0, 0]);
     step(both, [0, 1, 0, 0, 0], &installation(), [0, 0, 1, 0, 5]);
     step(both, [0, 0, 1, 0, 5], &lending, [0, 0, 0, 1, 5]);
-    let lent = both.table().to_vec();
-    step(both, [0, 0, 0, 1, 5], &returning(), [0, 0, 1, 0, 5]);
-    step(both, [0, 0, 1, 0, 5], &returning(), [0, 0, 1, 0, 5]);
-    both.go_on(lent);
     let removal = frame(6, 0x80, &H2);
     step(both, [0, 0, 0, 1, 5], &removal, [1, 0, 0, 0, 0]);
+    let counted = counted_installation();
+    step(both, [1, 0, 0, 0, 0], &setup(), [0, 1, 0, 0, 0]);
+    step(both, [0, 1, 0, 0, 0], &counted, [0, 0, 1, 0, 5]);
+    step(both, [0, 0, 1, 0, 5], &lending, [0, 0, 0, 1, 5]);
+    step(both, [0, 0, 0, 1, 5], &returning(3), [0, 0, 1, 0, 5]);
+    step(both, [0, 0, 1, 0, 5], &returning(4), [0, 0, 1, 0, 5]);
 }
 
 /// Case 21: a tally of zeros is that of no table, and one with the room of a

@@ -52,6 +52,7 @@ fn assert_carried_to_the_end(seen: &Seen) {
 fn a_total_is_carried_to_its_end_on_one_card() {
     let seen = compare_one_card(Rng::announced("returns of one card"));
     assert_carried_to_the_end(&seen);
+    assert!(seen.left.total < 0, "{:?}", seen.left);
 }
 
 /// The least total that there can be.
@@ -117,6 +118,19 @@ fn assert_adds(both: &mut Both, lent: &Lent, total: i32, returns: u16, change: i
     assert_eq!(given.totals, expected, "{:02x?}", lent.handed.frame);
 }
 
+/// Makes a return that is refused with 9, and asserts that nothing changes but the
+/// change, which is 0.
+fn assert_adds_nothing(both: &mut Both, lent: &Lent) {
+    let Totalled { call, totals } = both.call_totalling(lent);
+    assert_eq!((call.number, &call.reply[..4]), (0, &[0x25, 9, 0, 0][..]));
+    let expected = Totals {
+        change: 0,
+        ..lent.totals
+    };
+    assert_eq!(totals, expected, "{:02x?}", lent.handed.frame);
+    assert!(call.table == lent.table && call.tally == lent.handed.tally);
+}
+
 /// Makes a call that gives 108, and asserts that nothing changes.
 fn assert_108(both: &mut Both, lent: &Lent) {
     let Totalled { call, totals } = both.call_totalling(lent);
@@ -129,11 +143,9 @@ fn assert_108(both: &mut Both, lent: &Lent) {
 fn case_25_what_returns_add() {
     let rows = [
         (lent(Kept(1)), Kept(0), (0, 0), (-1, 1), -1),
-        (lent(Kept(1)), Kept(4), (-1, 1), (2, 2), 3),
-        (lent(Kept(1)), Kept(1), (2, 2), (2, 3), 0),
-        (lent(Kept(1)), NotKept, (2, 3), (2, 3), 0),
-        (lent(NotKept), Kept(3), (2, 3), (2, 3), 0),
-        (card(2, Kept(3)), Kept(4), (2, 3), (2, 3), 0),
+        (lent(Kept(1)), Kept(1), (-1, 1), (-1, 2), 0),
+        (lent(NotKept), NotKept, (-1, 2), (-1, 2), 0),
+        (card(2, Kept(3)), Kept(4), (-1, 2), (-1, 2), 0),
         (
             lent(Kept(1)),
             Kept(0),
@@ -146,6 +158,15 @@ fn case_25_what_returns_add() {
     for (table, sent, before, (total, returns), change) in rows {
         let lent = lending(&table, &back(sent), before.0, before.1);
         assert_adds(&mut both, &lent, total, returns, change);
+    }
+    let refused = [
+        (lent(Kept(1)), Kept(4), (-1, 1)),
+        (lent(Kept(1)), NotKept, (-1, 2)),
+        (lent(NotKept), Kept(3), (-1, 2)),
+    ];
+    for (table, sent, (total, returns)) in refused {
+        let lent = lending(&table, &back(sent), total, returns);
+        assert_adds_nothing(&mut both, &lent);
     }
 }
 
@@ -161,7 +182,7 @@ fn case_26_numbers_that_cannot_be_are_108() {
 }
 
 /// Every pair of counts, both ends among them, of a right that is lent and of one that
-/// is for use.
+/// is for use. What would raise a count is refused, and adds nothing.
 #[test]
 fn a_return_is_counted_where_both_keep_a_count() {
     let counts = [
@@ -177,38 +198,43 @@ fn a_return_is_counted_where_both_keep_a_count() {
     let mut both = Both::on(blank(1));
     for stored in counts {
         for sent in counts {
-            let counted = match (stored, sent) {
-                (Kept(stored), Kept(sent)) => Some(i32::from(sent) - i32::from(stored)),
-                _ => None,
-            };
-            let change = counted.unwrap_or(0);
-            let returns = 3 + u16::from(counted.is_some());
             let returned = lending(&lent(stored), &back(sent), -5, 3);
-            assert_adds(&mut both, &returned, change - 5, returns, change);
+            match (stored, sent) {
+                (NotKept, NotKept) => assert_adds(&mut both, &returned, -5, 3, 0),
+                (Kept(stored), Kept(sent)) if sent <= stored => {
+                    let change = i32::from(sent) - i32::from(stored);
+                    assert_adds(&mut both, &returned, change - 5, 4, change);
+                }
+                _ => assert_adds_nothing(&mut both, &returned),
+            }
             let again = lending(&card(2, stored), &back(sent), -5, 3);
             assert_adds(&mut both, &again, -5, 3, 0);
         }
     }
 }
 
-/// At each bound, one inside and one outside, with a return that is counted and with
-/// one that is not.
+/// At each bound, one inside and one outside, with a return that is counted, with one
+/// that is not and with one that is refused. A total above 0 is carried on too.
 #[test]
 fn a_total_is_at_most_65_535_for_each_return() {
     let mut both = Both::on(blank(1));
-    let table = lent(Kept(1));
+    let (table, uncounted) = (lent(Kept(1)), lent(NotKept));
     for returns in [0, 1, 2, 15_000, 29_998, 29_999] {
         let most = 65_535 * i32::from(returns);
         for end in [most, -most] {
             let lent = lending(&table, &back(Kept(0)), end, returns);
             assert_adds(&mut both, &lent, end - 1, returns + 1, -1);
-            let lent = lending(&table, &back(NotKept), end, returns);
+            let lent = lending(&table, &back(Kept(1)), end, returns);
+            assert_adds(&mut both, &lent, end, returns + 1, 0);
+            let lent = lending(&uncounted, &back(NotKept), end, returns);
             assert_adds(&mut both, &lent, end, returns, 0);
+            let lent = lending(&table, &back(Kept(2)), end, returns);
+            assert_adds_nothing(&mut both, &lent);
         }
         if returns > 0 {
             for inside in [most - 1, 1 - most] {
-                let lent = lending(&table, &back(Kept(3)), inside, returns);
-                assert_adds(&mut both, &lent, inside + 2, returns + 1, 2);
+                let lent = lending(&table, &back(Kept(0)), inside, returns);
+                assert_adds(&mut both, &lent, inside - 1, returns + 1, -1);
             }
         }
         for total in [most + 1, -most - 1, i32::MIN, i32::MAX] {
@@ -220,15 +246,16 @@ fn a_total_is_at_most_65_535_for_each_return() {
     }
 }
 
-/// The greatest total and the least have room; then no return has.
+/// The least total has room, and so has the greatest that 29,999 returns are handed over
+/// with; then no return has.
 #[test]
 fn no_more_than_30_000_returns_are_counted() {
     let mut both = Both::on(blank(1));
-    for (stored, sent, sign) in [(0, 0xFFFF, 1), (0xFFFF, 0, -1)] {
-        let before = sign * 65_535 * 29_999;
-        let lent = lending(&lent(Kept(stored)), &back(Kept(sent)), before, 29_999);
-        let (total, change) = (sign * 1_966_050_000, sign * 65_535);
-        assert_adds(&mut both, &lent, total, 30_000, change);
+    let most = 65_535 * 29_999;
+    for (before, sent) in [(-most, 0), (most, 0xFFFF), (most, 0)] {
+        let lent = lending(&lent(Kept(0xFFFF)), &back(Kept(sent)), before, 29_999);
+        let change = i32::from(sent) - 65_535;
+        assert_adds(&mut both, &lent, before + change, 30_000, change);
     }
     for returns in [30_000, 30_001, 32_767, 32_768, u16::MAX] {
         for total in [0, 1, -1, 1_966_050_000, -1_966_050_000, i32::MIN, i32::MAX] {
@@ -283,8 +310,8 @@ fn number_108_comes_before_every_other() {
     }
 }
 
-/// Returns that are refused with 1, 2, 4 and 6, on a card with a lent right that keeps a
-/// count and a reservation under ten bytes 1.
+/// Returns that are refused with 1, 2, 4, 6 and 9, on a card with a lent right that keeps
+/// a count of 9 and a reservation under ten bytes 1.
 #[test]
 fn a_return_that_is_refused_adds_nothing() {
     let mut reserved = blank(1);
@@ -300,6 +327,8 @@ fn a_return_that_is_refused_adds_nothing() {
         (2, frame(5, 0xC0, &body(2)[..11])),
         (4, frame(5, 0xC0, &body(3))),
         (6, frame(5, 0xC0, &body(1))),
+        (9, back(Kept(10))),
+        (9, back(NotKept)),
     ];
     let mut both = Both::on(blank(1));
     for (status, frame) in rows {
