@@ -35,7 +35,7 @@ pub enum Sent {
     OneMore,
     /// A greater number whose low byte is no greater.
     MoreByHighByte,
-    /// A greater number whose low byte is greater too, by more than one.
+    /// Any other greater number.
     More,
 }
 
@@ -101,9 +101,9 @@ pub struct Returned {
 }
 
 impl Returned {
-    /// The return that a call made on the table `before` that gave this number for this
-    /// frame and left this reply buffer; `None` where it is no request to return a right
-    /// that is there.
+    /// The return that a call made which found the table `before`, gave this number for
+    /// this frame and left this reply buffer; `None` where it is no request to return a
+    /// right that is there.
     pub fn of(before: &[u8], number: u16, frame: &[u8], reply: &[u8]) -> Option<Returned> {
         let (DONE, ReadRequest::Request(request)) = (number, read_request(frame)) else {
             return None;

@@ -120,6 +120,17 @@ fn a_status_other_than_0_has_an_empty_body_and_any_kind() {
 }
 
 #[test]
+fn status_9_is_read_with_every_kind_but_neither_with_a_body_nor_with_bit_7() {
+    for kind in 0..32 {
+        let frame = reply_bytes(kind, 9, &[]);
+        let reply = read_reply(&frame).expect("a refusal");
+        assert_eq!((reply.kind, reply.status), (kind, Status::CountRaised));
+        assert!(!accepted(kind, 9, &[0]) && !accepted(kind, 9, &[0, 4]));
+        assert!(!accepted(kind, 0x89, &[]) && !accepted(kind, 0x89, &[0, 4]));
+    }
+}
+
+#[test]
 fn no_success_for_kinds_outside_1_to_9() {
     for kind in (0..32).filter(|kind| !(1..=9).contains(kind)) {
         for body in [0, 1, 3, 16, 20] {
