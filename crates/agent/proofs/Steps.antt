@@ -1,10 +1,10 @@
 -- From the frame's reading to the profile's agent: one law for each step of the call.
-use Prim.Native.Nat.{ℕ, _<_, _≤_}
+use Prim.Native.Nat.{ℕ, _<_}
 use mathlib.Core.Path.{_≡_, refl, sym, ap, _∙_}
 use mathlib.Core.Bool.{Bool, true, false, not}
 use mathlib.Core.List.{List}
 use native.Mathlib.Omega.{arith}
-use borrow.Author.Tests.{ne-eqb, lt-ltb}
+use borrow.Author.Tests.{ne-eqb}
 use lib.Dec.{eqb, leb, ltb}
 use lib.ListN.{length}
 use Rattle.profile.specs.Bytes.{Bytes, if_then_else_}
@@ -14,7 +14,7 @@ use Rattle.profile.specs.Tally.{Tally, tallyOf, tallyIn, sameTally}
 use Rattle.profile.specs.Frame.{kindNumber}
 use Rattle.profile.specs.Request.{retrieve, rek, Read, asks, numberOf, readRequest, RequestFits}
 use Rattle.profile.specs.Agent.{theRight, theKey, Answer, find, whenFound, lendAt, act, firstEmptyFrom, Call, Outcome, refuse, tableAfter, obey, onBytes, agent}
-use Rattle.profile.proofs.Logic.{if-cases, if-two, not-false, ltb-false, ltb-over, leb-true, leb-false, leb-over}
+use Rattle.profile.proofs.Logic.{if-cases, if-two, not-false, ltb-over, leb-over}
 use Rattle.profile.proofs.Lookup.{Free}
 use Rattle.profile.proofs.FirstEmpty.{first-free}
 use Rattle.profile.proofs.WellFormed.{count-slots}
@@ -37,7 +37,8 @@ use Rattle.tallies.proofs.Answering.{Follows, follows, then-slots}
 use Rattle.decisions.specs.Serving.{Ready, Serves, answerAt, answerTo}
 use Rattle.refusals.specs.Refusing.{Refuses}
 use Rattle.rights.specs.Lending.{lentBy}
-use Rattle.agent.specs.Call.{outcome, callOf, lendsBy, whyOf, Asks, testsOf, Obeys}
+use Rattle.admission.specs.Tests.{testsOf}
+use Rattle.agent.specs.Call.{outcome, callOf, lendsBy, whyOf, Asks, Obeys}
 
 -- ---- a frame that is no request
 pub why-means : (f : Bytes) (r : Asked) → Answers f r → (w x : Why) → r .ask ≡ No w → x ≡ whyOf (r .ask) → whyMeans x ≡ readRequest f
@@ -124,37 +125,7 @@ lent-as kind h k {table} {buffer} {table'} {buffer'} {y} = go (eqb kind 3)
     go true s = s
     go false s = s
 
--- ---- the tests before the frame, one after another
-module _ (table : Bytes) (tally : Tally) (start : ℕ) (buffer : Bytes) where
-  pub tests-101 : length buffer < 4279 → 101 ≡ testsOf table tally start buffer
-  unfolding testsOf
-  tests-101 h = rw (lt-ltb (length buffer) 4279 h) refl
-
-  module _ (long : 4279 ≤ length buffer) where
-    pub tests-102 : wholeSlots table ≡ false → 102 ≡ testsOf table tally start buffer
-    unfolding testsOf
-    tests-102 e = rw (ltb-false (length buffer) 4279 long, e) refl
-
-    module _ (whole : wholeSlots table ≡ true) where
-      pub tests-105 : slotCount table ≤ start → 105 ≡ testsOf table tally start buffer
-      unfolding testsOf
-      tests-105 h = rw (ltb-false (length buffer) 4279 long, whole, leb-true (slotCount table) start h) refl
-
-      module _ (inside : start < slotCount table) where
-        pub tests-103 : wellTable table ≡ false → 103 ≡ testsOf table tally start buffer
-        unfolding testsOf
-        tests-103 e = rw (ltb-false (length buffer) 4279 long, whole, leb-false (slotCount table) start inside, e) refl
-
-        module _ (well : wellTable table ≡ true) where
-          pub tests-106 : sameTally tally (tallyIn table) ≡ false → 106 ≡ testsOf table tally start buffer
-          unfolding testsOf
-          tests-106 e = rw (ltb-false (length buffer) 4279 long, whole, leb-false (slotCount table) start inside, well, e) refl
-
-          pub tests-0 : sameTally tally (tallyIn table) ≡ true → 0 ≡ testsOf table tally start buffer
-          unfolding testsOf
-          tests-0 e = rw (ltb-false (length buffer) 4279 long, whole, leb-false (slotCount table) start inside, well, e) refl
-
--- they are those of the agent
+-- ---- the tests before the frame are those of the agent
 by-tests : (table : Bytes) (tally : Tally) (start : ℕ) (frame buffer : Bytes)
     → agent table (callOf tally start frame buffer)
     ≡ (if eqb (testsOf table tally start buffer) 0 then obeyed table (callOf tally start frame buffer) else refuse (testsOf table tally start buffer) table (callOf tally start frame buffer))

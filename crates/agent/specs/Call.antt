@@ -1,13 +1,10 @@
 -- A call by its parts, and what its steps promise.
 use Prim.Native.Nat.{ℕ}
 use mathlib.Core.Path.{_≡_}
-use mathlib.Core.Bool.{not}
-use lib.Dec.{eqb, leb, ltb}
-use lib.ListN.{length}
+use lib.Dec.{eqb}
 use Rattle.profile.specs.Bytes.{Bytes, if_then_else_}
-use Rattle.profile.specs.Sizes.{replyRoom, replyBufferShort, tableLength, startOutside, tableNotWellFormed, tallyDiffers}
-use Rattle.profile.specs.Table.{slotCount, slotsOf, wholeSlots, wellTable}
-use Rattle.profile.specs.Tally.{Tally, tallyIn, sameTally}
+use Rattle.profile.specs.Table.{slotsOf}
+use Rattle.profile.specs.Tally.{Tally, tallyIn}
 use Rattle.profile.specs.Frame.{kindNumber}
 use Rattle.profile.specs.Request.{Request, retrieve, rek, readRequest}
 use Rattle.profile.specs.Agent.{Call, Outcome, firstEmptyFrom, obey, onBytes}
@@ -42,16 +39,6 @@ whyOf (Yes b) = NoFrame
 pub record Asks (f : Bytes) (r : Asked) (b : Body) : Type 0 where
   pub answers : Answers f r
   pub yes : r .ask ≡ Yes b
-
--- PROFILE 4.1: the number of the tests that come before the frame, or 0 where none fails
-unfoldable pub testsOf : Bytes → Tally → ℕ → Bytes → ℕ
-testsOf table tally start buffer =
-    if ltb (length buffer) replyRoom then replyBufferShort
-    else if not (wholeSlots table) then tableLength
-    else if leb (slotCount table) start then startOutside
-    else if not (wellTable table) then tableNotWellFormed
-    else if not (sameTally tally (tallyIn table)) then tallyDiffers
-    else 0
 
 -- what is done with a frame on a well-formed table: number, reply buffer and table are the profile's, and so is the tally that follows from the change, which is
 -- the one from the slots before to those after, and can be taken into the tally

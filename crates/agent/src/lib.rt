@@ -4,20 +4,12 @@ use decisions::decision::INSTALLED;
 use profile::Tallied;
 use profile::Tally;
 use profile::number::DONE;
-use profile::number::REPLY_BUFFER_SHORT;
-use profile::number::START_OUTSIDE;
-use profile::number::TABLE_LENGTH;
-use profile::number::TABLE_NOT_WELL_FORMED;
-use profile::number::TALLY_DIFFERS;
-use profile::sizes::REPLY_ROOM;
-use profile::sizes::SLOT_BYTES;
 use request_reader::asked::Ask;
 use request_reader::asked::Asked;
 use request_reader::asked::Body;
 use request_reader::asked::Why;
 use tallies::update::Change;
 ghost use mathlib.Core.Path.{_≡_};
-ghost use lib.ListN.{length};
 ghost use Prim.Native.Nat.{_<_, _≤_};
 ghost use Rattle.profile.specs.Table.{slotCount, slotsOf};
 ghost use Rattle.profile.specs.Frame.{kindNumber};
@@ -25,7 +17,7 @@ ghost use Rattle.profile.specs.Agent.{agent, firstEmptyFrom};
 ghost use Rattle.tallies.specs.Changes.{changeIn};
 ghost use Rattle.request_reader.specs.Answer.{bodyMeans};
 ghost use Rattle.decisions.specs.Serving.{Ready, Serves, answerAt, answerTo};
-ghost use Rattle.agent.specs.Call.{outcome, callOf, whyOf, lendsBy, Asks, Obeys, testsOf};
+ghost use Rattle.agent.specs.Call.{outcome, callOf, whyOf, lendsBy, Asks, Obeys};
 
 // Why an answer is no request.
 fn why_of(ask: Ask) -> Why
@@ -125,35 +117,13 @@ fn answer(table: &mut [u8], start: usize, frame: &[u8], reply: &mut [u8]) -> Ans
     }
 }
 
-// 101, 102, 105, 103 and 106, tested in this order; 0 where none of them is given (PROFILE 4.1).
-fn tested(table: &[u8], tally: Tally, start: usize, reply: &[u8]) -> u16
-    ensures { λ r. ⌜ r ≡ testsOf (now (table .entry)) tally start (now (reply .entry)) ⌝ }
-{
-    if reply.len() < REPLY_ROOM {
-        return REPLY_BUFFER_SHORT;
-    }
-    if !tables::part::whole_slots(table) {
-        return TABLE_LENGTH;
-    }
-    if table.len() / SLOT_BYTES <= start {
-        return START_OUTSIDE;
-    }
-    if !tables::table::well_table(table) {
-        return TABLE_NOT_WELL_FORMED;
-    }
-    if !tallies::count::same(tally, tallies::count::tally_of(table)) {
-        return TALLY_DIFFERS;
-    }
-    DONE
-}
-
 // PROFILE 4.1. 101, 102, 105, 103, 106 and 104, tested in this order and with nothing changed; otherwise 0, the reply, the new table and
 // its tally. Nothing is required of what is lent, nor of tally and start. The tally comes and goes by value, so that whoever makes a call
 // within Rattle needs no reference to it.
 pub fn call(table: &mut [u8], tally: Tally, start: usize, frame: &[u8], reply: &mut [u8]) -> Tallied
     ensures { λ r. ⌜ outcome (r .number) (now (reply .exit)) (now (table .exit)) (r .tally) ≡ agent (now (table .entry)) (callOf tally start (now (frame .entry)) (now (reply .entry))) ⌝ }
 {
-    let number = tested(table, tally, start, reply);
+    let number = admission::tested(table, tally, start, reply);
     if number != DONE {
         return Tallied {
             number: number,
@@ -187,7 +157,7 @@ pub fn call_and_tell(
     ensures calls { λ r. ⌜ outcome (r .number) (now (reply .exit)) (now (table .exit)) (r .tally) ≡ agent (now (table .entry)) (callOf tally start (now (frame .entry)) (now (reply .entry))) ⌝ }
     ensures tells { λ r. ⌜ r .change ≡ changeIn (slotsOf (now (table .entry))) (slotsOf (now (table .exit))) ⌝ }
 {
-    let number = tested(table, tally, start, reply);
+    let number = admission::tested(table, tally, start, reply);
     if number != DONE {
         return Called {
             number: number,

@@ -1,4 +1,4 @@
--- `agent::tested` meets its contract: the numbers 101, 102, 105, 103 and 106, in this order, or 0. Assumes nothing.
+-- `admission::tested` meets its contract: the numbers 101, 102, 105, 103 and 106, in this order, or 0. Assumes nothing.
 use denote.Ref.{now}
 use Prim.Native.Nat.{_<_}
 use mathlib.Core.Path.{_≡_, sym, ap, _∙_}
@@ -8,9 +8,9 @@ use borrow.Author.Needs.{needs}
 use borrow.Author.Tests.{not-true, not-false}
 use Rattle.profile.specs.Table.{slotCount, wholeSlots, wellTable}
 use Rattle.profile.specs.Tally.{tallyIn, sameTally}
-use Rattle.agent.proofs.Steps.{tests-101, tests-102, tests-105, tests-103, tests-106, tests-0}
-use Rattle.agent.proofs.tested.Statement.{statement}
-use Rattle.agent.proofs.tested.Tie as tie
+use Rattle.admission.proofs.TestLaws.{tests-101, tests-102, tests-105, tests-103, tests-106, tests-0}
+use Rattle.admission.proofs.tested.Statement.{statement}
+use Rattle.admission.proofs.tested.Tie as tie
 
 -- what is known once the tests for 101, for 102, for 105 and for 103 are passed
 abbrev first : tie.Else1 → tie.Start
