@@ -21,7 +21,7 @@ ghost use Rattle.profile.specs.Salvage.{salvage as salvageOf};
 ghost use Rattle.profile.specs.Tally.{tallied, workOut};
 ghost use Rattle.profile.specs.Total.{totalsWith, totalling};
 ghost use Rattle.profile.specs.Turning.{turn as turnOf};
-ghost use Rattle.agent.specs.Call.{outcome, callOf};
+ghost use Rattle.serving.specs.Call.{outcome, callOf};
 ghost use Rattle.request_writer.specs.Writing.{wrote};
 ghost use Rattle.salvage.specs.Salvages.{salvaged};
 ghost use Rattle.totals.specs.Returns.{totalled};

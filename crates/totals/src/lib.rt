@@ -8,7 +8,7 @@ pub mod total; // total.rt: a total, its bounds, and one change added
 
 ghost use mathlib.Core.Path.{_≡_};
 ghost use Rattle.profile.specs.Total.{totalsWith, totalling};
-ghost use Rattle.agent.specs.Call.{outcome, callOf};
+ghost use Rattle.serving.specs.Call.{outcome, callOf};
 ghost use Rattle.totals.specs.Returns.{totalled};
 
 // PROFILE 4.5. 108 before all other numbers, with nothing changed; otherwise the call, and what its return did to the count. The counts come

@@ -9,7 +9,7 @@ use Rattle.cavernlull.proofs.Walk.T′
 use Rattle.cavernlull.proofs.Walk.D
 use Rattle.cavernlull.proofs.Walk.D′
 use Rattle.profile.specs.Agent.{agent as agentOf}
-use Rattle.agent.specs.Call.{outcome, callOf}
+use Rattle.serving.specs.Call.{outcome, callOf}
 use Rattle.agent.proofs.call as agent
 use Rattle.agent.proofs.call.Symbol as agent-def
 use Rattle.agent.proofs.call.Symbol.{name as #agent·call}

@@ -9,7 +9,7 @@ use Rattle.cavernlull.proofs.Walk.T′
 use Rattle.cavernlull.proofs.Walk.D
 use Rattle.cavernlull.proofs.Walk.D′
 use Rattle.profile.specs.Total.{totalsWith, totalling}
-use Rattle.agent.specs.Call.{outcome, callOf}
+use Rattle.serving.specs.Call.{outcome, callOf}
 use Rattle.totals.specs.Returns.{totalled}
 use Rattle.totals.proofs.call_totalling as totals
 use Rattle.totals.proofs.call_totalling.Symbol as totals-def

@@ -9,7 +9,7 @@ use mir.Val.{toZ, ofZ}
 use mir.Facts.{toZ-ofZ}
 use Rattle.profile.specs.Agent.{Call}
 use Rattle.profile.specs.Total.{totalsWith, totalsHold, withReturn}
-use Rattle.agent.specs.Call.{callOf}
+use Rattle.serving.specs.Call.{callOf}
 use Rattle.totals.specs.Returns.{returnSaid}
 use Rattle.totals.proofs.Outcomes.{given-108, with-totals}
 use Rattle.totals.proofs.call_totalling.Statement.{statement}

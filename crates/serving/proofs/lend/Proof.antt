@@ -1,8 +1,8 @@
--- `agent::lend` meets its contract: what is lent is the profile's answer. Assumes nothing.
+-- `serving::lend` meets its contract: what is lent is the profile's answer. Assumes nothing.
 use borrow.Author.Needs.{needs}
-use Rattle.agent.proofs.Steps.{lent-as}
-use Rattle.agent.proofs.lend.Statement.{statement}
-use Rattle.agent.proofs.lend.Tie as tie
+use Rattle.serving.proofs.Served.{lent-as}
+use Rattle.serving.proofs.lend.Statement.{statement}
+use Rattle.serving.proofs.lend.Tie as tie
 
 lend-requires : tie.Need-lend-requires
 lend-requires c κs = search needs

@@ -1,13 +1,13 @@
--- A call by its parts, and what its steps promise.
+-- What the steps of a frame promise.
 use Prim.Native.Nat.{ℕ}
 use mathlib.Core.Path.{_≡_}
 use lib.Dec.{eqb}
 use Rattle.profile.specs.Bytes.{Bytes, if_then_else_}
 use Rattle.profile.specs.Table.{slotsOf}
-use Rattle.profile.specs.Tally.{Tally, tallyIn}
+use Rattle.profile.specs.Tally.{tallyIn}
 use Rattle.profile.specs.Frame.{kindNumber}
 use Rattle.profile.specs.Request.{Request, retrieve, rek, readRequest}
-use Rattle.profile.specs.Agent.{Call, Outcome, firstEmptyFrom, obey, onBytes}
+use Rattle.profile.specs.Agent.{firstEmptyFrom, obey, onBytes}
 use Rattle.request_reader.specs.declared.asked.Why.{Why}
 use Rattle.request_reader.specs.declared.asked.Why.the-variants.{NoFrame}
 use Rattle.request_reader.specs.declared.asked.Body.{Body}
@@ -17,14 +17,7 @@ use Rattle.request_reader.specs.declared.asked.Asked.{Asked}
 use Rattle.request_reader.specs.Answer.{Answers}
 use Rattle.tallies.specs.declared.update.Change.{Change}
 use Rattle.tallies.specs.Changes.{changeIn, updated, Updates}
-
--- the number, and the reply buffer, the table and the tally afterwards
-abbrev pub outcome : ℕ → Bytes → Bytes → Tally → Outcome
-outcome n reply table tally = record { number = n; reply = reply; table = table; tally = tally }
-
--- a call with this tally, from this start, with this frame and this reply buffer
-abbrev pub callOf : Tally → ℕ → Bytes → Bytes → Call
-callOf tally start frame buffer = record { tally = tally; start = start; request = frame; buffer = buffer }
+use Rattle.serving.specs.Call.{outcome, callOf}
 
 -- kinds 3 and 4, by their number
 abbrev pub lendsBy : ℕ → Bytes → Bytes → Request

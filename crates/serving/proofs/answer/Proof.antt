@@ -1,14 +1,14 @@
--- `agent::answer` meets its contract: the frame is refused, or its request is served. Assumes nothing.
+-- `serving::answer` meets its contract: the frame is refused, or its request is served. Assumes nothing.
 use denote.Ref.{now}
 use mathlib.Core.Path.{_≡_}
 use borrow.Author.Needs.{needs}
 use Rattle.profile.specs.Request.{readRequest}
 use Rattle.request_reader.specs.declared.asked.Why.{Why}
 use Rattle.request_reader.specs.Answer.{whyMeans}
-use Rattle.agent.specs.Call.{whyOf}
-use Rattle.agent.proofs.Steps.{why-means, refused-obeys, obeys}
-use Rattle.agent.proofs.answer.Statement.{statement}
-use Rattle.agent.proofs.answer.Tie as tie
+use Rattle.serving.specs.Obeying.{whyOf}
+use Rattle.serving.proofs.Served.{why-means, refused-obeys, obeys}
+use Rattle.serving.proofs.answer.Statement.{statement}
+use Rattle.serving.proofs.answer.Tie as tie
 
 -- from where the frame was read, back to the start
 abbrev start : tie.After-read-request → tie.Start

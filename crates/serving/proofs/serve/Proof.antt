@@ -1,4 +1,4 @@
--- `agent::serve` meets its contract: each kind's own promise is the profile's answer to what the frame reads as. Assumes nothing.
+-- `serving::serve` meets its contract: each kind's own promise is the profile's answer to what the frame reads as. Assumes nothing.
 use denote.Ref.{now}
 use mathlib.Core.Path.{sym, ap, _∙_}
 use mathlib.Core.Logic.{⊎-elim}
@@ -10,9 +10,9 @@ use Rattle.request_reader.proofs.ByCase.{install-within, list-within}
 use Rattle.octets.proofs.ByteBounds.{below-256}
 use Rattle.removals.proofs.Cleared.{removed, cancelled}
 use Rattle.queries.proofs.Untouched.{list-keeps, info-keeps, list-same, info-same}
-use Rattle.agent.proofs.Steps.{served-at, served}
-use Rattle.agent.proofs.serve.Statement.{statement}
-use Rattle.agent.proofs.serve.Tie as tie
+use Rattle.serving.proofs.Served.{served-at, served}
+use Rattle.serving.proofs.serve.Statement.{statement}
+use Rattle.serving.proofs.serve.Tie as tie
 
 -- from the match on the body, back to the start
 abbrev start : tie.After-slice-known2 → tie.Start
