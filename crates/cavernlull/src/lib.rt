@@ -7,7 +7,7 @@ use profile::Tally;
 use profile::number::DONE;
 use profile::sizes::HANDLE_BYTES;
 use profile::sizes::KEY_BYTES;
-use request_writer::given::Plain;
+use request_fields::Plain;
 
 mod numbers; // numbers.rt: a reply as eleven numbers
 

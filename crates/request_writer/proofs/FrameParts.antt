@@ -11,7 +11,7 @@ use Rattle.profile.specs.Bytes.{Bytes, word-bytes, over}
 use Rattle.profile.specs.Sizes.{handleSize, keySize, writerBufferShort}
 use Rattle.profile.specs.Frame.{frame}
 use Rattle.profile.specs.Device.{put}
-use Rattle.request_writer.specs.declared.given.Plain.{Plain}
+use Rattle.request_fields.specs.declared.Plain.{Plain}
 use Rattle.request_writer.specs.Writing.{wrote, started, rightBody}
 
 -- in each law k is the kind and t the bit of the count

@@ -1,3 +1,3 @@
 pub mod FrameParts
-pub mod Allowed
+pub mod AllowedFrames
 pub mod ReadBack

@@ -1,20 +1,10 @@
--- The request writer's fields as the profile has them, and what the parts of the writer do.
+-- What the parts of the request writer do.
 use Prim.Native.Nat.{ℕ, _+_, _*_}
 use mathlib.Core.List.{_∷_, _++_}
-use mathlib.Core.Option.{Option, none, some}
-use mathlib.Core.Bool.{Bool, false}
 use Rattle.profile.specs.Bytes.{Bytes, word-bytes}
-use Rattle.profile.specs.Frame.{Kind, frameHead}
-use Rattle.profile.specs.Device.{Fields, fieldsWith, kindHolds, Written}
-use Rattle.request_writer.specs.declared.given.Plain.{Plain}
-
-abbrev pub fieldsOf : Plain → Bytes → Bytes → Fields
-fieldsOf p hashes payload = fieldsWith (p .handle) (p .new) (p .key) (p .room) (p .count) (p .kept) (p .limit) hashes payload
-
--- the kind's own tests, which no other number passes
-abbrev pub kindAllows : Option Kind → Fields → Bool
-kindAllows none f = false
-kindAllows (some k) f = kindHolds k f
+use Rattle.profile.specs.Frame.{frameHead}
+use Rattle.profile.specs.Device.{Written}
+use Rattle.request_fields.specs.declared.Plain.{Plain}
 
 -- a number, and the buffer afterwards
 abbrev pub wrote : ℕ → Bytes → Written

@@ -1,10 +1,10 @@
 // Requests written part by part (PROFILE 3.1 and 3.3): 201 where the buffer is shorter than the frame, and else the frame, with the
 // verdict 1 and the bit of its count, `kept`. The rest of the buffer stays as found.
-use crate::given::Plain;
 use profile::number::DONE;
 use profile::number::WRITER_BUFFER_SHORT;
 use profile::sizes::HANDLE_BYTES;
 use profile::sizes::KEY_BYTES;
+use request_fields::Plain;
 ghost use mathlib.Core.Path.{_≡_};
 ghost use mathlib.Core.List.{_∷_, [], _++_};
 ghost use Prim.Native.Nat.{_+_, _*_, _≤_, _<_};

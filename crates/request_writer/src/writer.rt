@@ -1,12 +1,13 @@
 // The request writer (PROFILE 6.2): 202, then 201, then the frame.
-use crate::given::Plain;
 use profile::number::WRITER_FIELDS;
 use profile::sizes::HASH_BYTES;
+use request_fields::Plain;
 ghost use mathlib.Core.Path.{_≡_};
 ghost use mathlib.Core.Bool.{true, _&&_};
 ghost use Rattle.profile.specs.Frame.{kindOf};
 ghost use Rattle.profile.specs.Device.{wholeHashes, writeKind, write};
-ghost use Rattle.request_writer.specs.Writing.{fieldsOf, kindAllows, wrote};
+ghost use Rattle.request_fields.specs.Given.{fieldsOf, kindAllows};
+ghost use Rattle.request_writer.specs.Writing.{wrote};
 
 // The parts of each kind, once its fields are allowed.
 fn write_kind(kind: u8, p: Plain, hashes: &[u8], payload: &[u8], out: &mut [u8]) -> u16
@@ -35,8 +36,8 @@ fn write_kind(kind: u8, p: Plain, hashes: &[u8], payload: &[u8], out: &mut [u8])
 pub fn write_request(kind: u8, p: Plain, hashes: &[u8], payload: &[u8], out: &mut [u8]) -> u16
     ensures { λ r. ⌜ wrote r (now (out .exit)) ≡ write kind (fieldsOf p (now (hashes .entry)) (now (payload .entry))) (now (out .entry)) ⌝ }
 {
-    let whole = crate::given::whole_hashes(hashes);
-    let allowed = whole & crate::given::kind_allows(kind, p, hashes, payload);
+    let whole = request_fields::whole_hashes(hashes);
+    let allowed = whole & request_fields::kind_allows(kind, p, hashes, payload);
     if !allowed {
         return WRITER_FIELDS;
     }

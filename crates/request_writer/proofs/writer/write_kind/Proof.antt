@@ -11,9 +11,10 @@ use Rattle.profile.specs.Slot.{countHolds}
 use Rattle.profile.specs.Frame.{Kind, Setup, Install, Retrieve, Rek, Enable, Remove, Cancel, List', Info, kindOf, frame}
 use Rattle.profile.specs.Request.{Request, numberOf, secondByte, writeBody, writeRequest}
 use Rattle.profile.specs.Device.{Fields, wholeHashes, requestOf, Written, put, writeKind}
-use Rattle.request_writer.specs.Writing.{fieldsOf, kindAllows}
+use Rattle.request_fields.specs.Given.{fieldsOf, kindAllows}
 use Rattle.request_reader.proofs.Choices.{no-kind}
-use Rattle.request_writer.proofs.Allowed.{hashes-few, payload-short, install-says, enable-says, enable-put, right-put, list-put, kind-writes}
+use Rattle.request_fields.proofs.Allowed.{hashes-few, payload-short, install-says, enable-says}
+use Rattle.request_writer.proofs.AllowedFrames.{enable-put, right-put, list-put, kind-writes}
 use borrow.Author.Needs.{needs}
 use Rattle.request_writer.proofs.writer.write_kind.Statement.{statement}
 use Rattle.request_writer.proofs.writer.write_kind.Tie as tie

@@ -1,8 +1,8 @@
 -- `request_writer::writer::write_request` meets its contract. Assumes nothing.
 use denote.Ref.{now}
 use Rattle.profile.specs.Device.{write}
-use Rattle.request_writer.specs.Writing.{fieldsOf}
-use Rattle.request_writer.proofs.Allowed.{fields-allowed, fields-refused}
+use Rattle.request_fields.specs.Given.{fieldsOf}
+use Rattle.request_writer.proofs.AllowedFrames.{fields-allowed, fields-refused}
 use borrow.Author.Needs.{needs}
 use Rattle.request_writer.proofs.writer.write_request.Statement.{statement}
 use Rattle.request_writer.proofs.writer.write_request.Tie as tie

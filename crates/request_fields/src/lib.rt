@@ -1,4 +1,4 @@
-// The fields that the request writer is given (PROFILE 6.2), and the tests on them, which give 202.
+// The fields that the request writer is given (PROFILE 6.2), and which of them a kind allows: the tests that give 202.
 use profile::sizes::HANDLE_BYTES;
 use profile::sizes::HASH_BYTES;
 use profile::sizes::KEY_BYTES;
@@ -13,7 +13,7 @@ ghost use Rattle.profile.specs.Sizes.{mostPayload};
 ghost use Rattle.profile.specs.Slot.{countHolds};
 ghost use Rattle.profile.specs.Frame.{kindOf};
 ghost use Rattle.profile.specs.Device.{none?, wholeHashes};
-ghost use Rattle.request_writer.specs.Writing.{fieldsOf, kindAllows};
+ghost use Rattle.request_fields.specs.Given.{fieldsOf, kindAllows};
 
 // All fields but the hashes and the payload, which are lent and not copied. `room` is the length of kind 1. A count is given by its
 // number and its bit, `kept`: not every two of these say a count, and the tests find those that do not.

@@ -1,4 +1,4 @@
--- `request_writer::given::empty` meets its contract: what has no length has no byte. Assumes nothing.
+-- `request_fields::empty` meets its contract: what has no length has no byte. Assumes nothing.
 use mathlib.Core.Path.{_≡_, refl}
 use mathlib.Core.List.{[], _∷_}
 use Prim.Native.Nat.{suc}
@@ -9,8 +9,8 @@ use borrow.Author.Tests.{ne-eqb}
 use denote.Ref.{now}
 use Rattle.profile.specs.Bytes.{Bytes}
 use Rattle.profile.specs.Device.{none?}
-use Rattle.request_writer.proofs.given.empty.Statement.{statement}
-use Rattle.request_writer.proofs.given.empty.Tie as tie
+use Rattle.request_fields.proofs.empty.Statement.{statement}
+use Rattle.request_fields.proofs.empty.Tie as tie
 
 no-length : (s : Bytes) → eqb (length s) 0 ≡ none? s
 no-length [] = refl

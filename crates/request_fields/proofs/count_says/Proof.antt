@@ -1,10 +1,10 @@
--- `request_writer::given::count_says` meets its contract. Assumes nothing.
+-- `request_fields::count_says` meets its contract. Assumes nothing.
 use mathlib.Core.Path.{ap}
 use mathlib.Core.Bool.{Bool, _&&_}
 use lib.Dec.{leb}
 use borrow.Author.Needs.{needs}
-use Rattle.request_writer.proofs.given.count_says.Statement.{statement}
-use Rattle.request_writer.proofs.given.count_says.Tie as tie
+use Rattle.request_fields.proofs.count_says.Statement.{statement}
+use Rattle.request_fields.proofs.count_says.Tie as tie
 
 count-holds-requires : tie.Need-count-holds-requires
 count-holds-requires c κs = search needs

@@ -1,9 +1,9 @@
--- `request_writer::given::kind_allows` meets its contract, kind by kind. Assumes nothing.
+-- `request_fields::kind_allows` meets its contract, kind by kind. Assumes nothing.
 use Rattle.request_reader.proofs.Choices.{no-kind}
 use mathlib.Core.Path.{refl}
 use borrow.Author.Needs.{needs}
-use Rattle.request_writer.proofs.given.kind_allows.Statement.{statement}
-use Rattle.request_writer.proofs.given.kind_allows.Tie as tie
+use Rattle.request_fields.proofs.kind_allows.Statement.{statement}
+use Rattle.request_fields.proofs.kind_allows.Tie as tie
 
 zero-handle-requires : tie.Need-zero-handle-requires
 zero-handle-requires c κs = search needs
