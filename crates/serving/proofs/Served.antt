@@ -31,7 +31,7 @@ use Rattle.tallies.proofs.Changing.{none-moved}
 use Rattle.tallies.proofs.Answering.{Follows, follows, then-slots}
 use Rattle.decisions.specs.Serving.{Serves, answerAt, answerTo}
 use Rattle.refusals.specs.Refusing.{Refuses}
-use Rattle.rights.specs.Lending.{lentBy}
+use Rattle.lendings.specs.Lending.{lentBy}
 use Rattle.serving.specs.Call.{outcome, callOf}
 use Rattle.serving.specs.Obeying.{lendsBy, whyOf, Asks, Obeys}
 

@@ -33,7 +33,7 @@ fn lend(table: &mut [u8], reply: &mut [u8], asked: Asked, kind: u8) -> Change
 {
     let h = asked.handle;
     let k = asked.new;
-    rights::lend::lend(table, reply, h, k, kind)
+    lendings::lend(table, reply, h, k, kind)
 }
 
 // What a request does, kind by kind, and what it changed. Each takes from what was read the fields that it has; only a setup takes the start.
@@ -64,7 +64,7 @@ fn serve(
         Body::Enable => {
             let h = asked.handle;
             let count = asked.count;
-            return rights::enable::enable(table, reply, h, count);
+            return returns::enable(table, reply, h, count);
         }
         Body::Remove => {
             let h = asked.handle;
