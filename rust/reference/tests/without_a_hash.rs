@@ -245,7 +245,7 @@ fn from_a_blank_table_every_right_is_found_by_course() {
     for slots in 1..=MAX_SLOTS {
         let asker = Asker::new(slots + 2);
         let mut table = blank(slots);
-        for call in 0..300 {
+        for call in 0..900 {
             let frame = asker.frame(&mut rng);
             let before = table.clone();
             call_from(rng.below(slots) as u64, &mut table, &frame);
