@@ -2,27 +2,23 @@
 use Prim.Native.Nat.{ℕ, _+_, _-_, _≤_}
 use mathlib.Core.Path.{_≡_, refl, sym, ap, ap₂, _∙_}
 use mathlib.Core.List.{List, [], _∷_}
-use mathlib.Core.Bool.{Bool, true, false, not}
+use mathlib.Core.Bool.{Bool, true, false}
 use native.Mathlib.Omega.{arith}
-use lib.Dec.{eqb, leb, ltb}
+use lib.Dec.{eqb}
 use lib.IntN.{ℤ, pos, negℤ, _+ℤ_, _-ℤ_, +ℤ-idl, +ℤ-assoc, +ℤ-invr, negℤ-+ℤ, pos-+ℤ-pos}
-use lib.ListN.{length}
 use Rattle.profile.specs.Bytes.{Bytes, if_then_else_}
-use Rattle.profile.specs.Slot.{Count, NoneKept, Kept, raises, reserved, enabled, disabled, Entry, Slot}
-use Rattle.profile.specs.Table.{slotCount, slotsOf, wholeSlots, wellTable}
-use Rattle.profile.specs.Tally.{tallyIn, sameTally}
-use Rattle.profile.specs.Frame.{kindNumber, statusIn}
+use Rattle.profile.specs.Slot.{Count, NoneKept, Kept, raises, reserved, enabled, disabled, Slot}
+use Rattle.profile.specs.Table.{slotsOf}
+use Rattle.profile.specs.Frame.{kindNumber}
 use Rattle.profile.specs.Request.{Request, setup, install, retrieve, rek, enable, remove, cancel, list, info, Read, asks, refused, noFrame, readRequest}
-use Rattle.profile.specs.Agent.{Answer, deny, done, Found, absent, one, find, whenFound, enableAt, act, status, Call, Outcome, refuse, obey, onBytes, agent}
-use Rattle.profile.specs.History.{Exchange}
+use Rattle.profile.specs.Agent.{Answer, Found, absent, one, find, whenFound, enableAt, act, status, Call, Outcome, refuse, obey, onBytes}
 use Rattle.profile.specs.Run.{exchange}
-use Rattle.profile.specs.Rising.{NoHigher, NotAbove}
-use Rattle.profile.specs.Total.{Return, noReturn, returned, returnFrom, returnBy, returnIn, returnOf, change, changeOf, Totals, totalsHold, withReturn}
+use Rattle.profile.specs.Rising.{NotAbove}
+use Rattle.profile.specs.Total.{Return, noReturn, returned, returnFrom, returnBy, returnIn, returnOf, change, changeOf, Totals, totalsHold}
 use Rattle.profile.specs.Totals.{step, totalsThen, noTotals}
 use Rattle.profile.proofs.Logic.{if-both, if-cases, ltb-over}
 use Rattle.profile.proofs.Numbers.{by-agent}
 use Rattle.profile.proofs.Counts.{status-over}
-use Rattle.profile.proofs.Frames.{coded}
 use Rattle.profile.proofs.Total.{refused-108, called}
 
 -- ---- signed numbers

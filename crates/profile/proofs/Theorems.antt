@@ -50,7 +50,7 @@ use Rattle.profile.proofs.Totals.{totals-told, totals-blank}
 use Rattle.profile.proofs.Changes.{never-above, total-not-above}
 use Rattle.profile.proofs.CountOrder.{raise-means}
 use Rattle.profile.proofs.Raising.{refused-9, only-9, returned-anyway}
-use Rattle.profile.proofs.Rising.{slot-never-rises}
+use Rattle.profile.proofs.SlotCounts.{slot-never-rises}
 use Rattle.profile.proofs.Demand3.{demand-from, blank-ledger, demand-3}
 use Rattle.profile.proofs.Restart.{after-salvage, after-turning}
 use Rattle.profile.proofs.TallyLaws.{counts-all, tally-slot}

@@ -1,5 +1,4 @@
 -- The words of PROFILE 5.5, 8.3 and 8.7 for counts that never rise, in worked cases, with what they exclude.
-use mathlib.Core.Path.{_≡_}
 use mathlib.Core.List.{List, [], _∷_}
 use lib.IntN.{pos, negℤ}
 use Rattle.profile.specs.Slot.{NoneKept, Kept, Right, rightWith, enabled, disabled, Slot, empty, taken}

@@ -191,8 +191,8 @@ pub record Theorems : Type 0 where
   -- PROFILE 2.9: a right on a card is listed, read, lent, retrieved, returned and removed whatever its hashes, and so where it has none
   pub in-use : (free : ℕ) (t : List Slot) → distinct t ≡ true → (i : ℕ) (h : Bytes) (r : Right) → getElem? t i ≡ some (taken h (enabled r)) → OpenToUse free t i h r
   pub when-lent : (free : ℕ) (t : List Slot) → distinct t ≡ true → (i : ℕ) (h : Bytes) (r : Right) → getElem? t i ≡ some (taken h (disabled r)) → OpenToReturn free t i h r
-  -- PROFILE 5.5: a count raises another exactly where it is not no higher; a return with such a count is 9, and nothing else is; with every other count the right is
-  -- returned (`when-lent`), and so it can be returned in any case
+  -- PROFILE 5.5: a count does not raise another exactly where it is no higher; a return with a higher one is 9, and nothing else is; with every other count the right
+  -- is returned (`when-lent`), and so it can be returned in any case
   pub raise-means : (earlier later : Count) → (raises earlier later ≡ false) ↔ NoHigher earlier later
   pub refused-9 : (free : ℕ) (t : List Slot) → distinct t ≡ true → (i : ℕ) (h : Bytes) (r : Right) → getElem? t i ≡ some (taken h (disabled r))
       → (c : Count) → (NoHigher (r .count) c → ⊥) → act free t (enable h c) ≡ deny countRaised
