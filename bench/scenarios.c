@@ -20,21 +20,17 @@ static void random_bytes(uint8_t *s, size_t length) {
 }
 
 /* ---- tables */
-enum { RESERVED = 1, ENABLED = 2, LONG = 0x01, KEPT = 0x02 };
+enum { RESERVED = 1, ENABLED = 2, KEPT = 0x02 };
 
-static size_t hash_length(const struct scenario *s) { return s->version == 2 ? 32 : 20; }
-
-/* A slot of the scenario's edition: a reservation, or a right that keeps a count. */
-static void put_slot(struct scenario *scenario, unsigned slot, int place, unsigned hashes, size_t length) {
-    uint8_t *s = scenario->table + SLOT * slot;
-    unsigned mark = hashes != 0 && scenario->version == 2 ? LONG : 0;
+/* A reservation, or a right that keeps a count. */
+static void put_slot(uint8_t *s, int place, unsigned hashes, size_t length) {
     random_bytes(s + 1, 10);
-    s[0] = (uint8_t)(place << 6 | hashes << 2 | (place == RESERVED ? 0 : KEPT) | mark);
+    s[0] = (uint8_t)(place << 6 | hashes << 2 | (place == RESERVED ? 0 : KEPT));
     s[29] = (uint8_t)(length >> 8);
     s[30] = (uint8_t)length;
     if (place == RESERVED) return;
     random_bytes(s + 11, 18);
-    random_bytes(s + 31, hash_length(scenario) * hashes);
+    random_bytes(s + 31, 20 * hashes);
     random_bytes(s + 192, length);
 }
 
@@ -50,12 +46,12 @@ static struct cavernlull_tally counted(const uint8_t *table) {
 }
 
 static void reserve(struct scenario *s) {
-    for (unsigned i = 0; i < SLOTS; i++) put_slot(s, i, RESERVED, 0, 4096);
+    for (unsigned i = 0; i < SLOTS; i++) put_slot(s->table + SLOT * i, RESERVED, 0, 4096);
 }
 
 /* Fills slots with rights of two hashes each. */
 static void fill(struct scenario *s, unsigned slots, size_t length) {
-    for (unsigned i = 0; i < slots; i++) put_slot(s, i, ENABLED, 2, length);
+    for (unsigned i = 0; i < slots; i++) put_slot(s->table + SLOT * i, ENABLED, 2, length);
 }
 
 /* The same, but the slot before the start is empty: a setup comes to it last. */
@@ -65,9 +61,8 @@ static void fill_but_the_last_searched(struct scenario *s, size_t length) {
     memset(s->table + SLOT * 6, 0, SLOT);
 }
 
-/* Fills all slots with rights of as many hashes as there is room for. */
 static void fill_with_hashes(struct scenario *s) {
-    for (unsigned i = 0; i < SLOTS; i++) put_slot(s, i, ENABLED, (unsigned)(160 / hash_length(s)), 100);
+    for (unsigned i = 0; i < SLOTS; i++) put_slot(s->table + SLOT * i, ENABLED, 8, 100);
 }
 
 /* Fills all slots, under handles that differ in one of their ten bytes. */
@@ -83,7 +78,7 @@ static void fill_under_like_handles(struct scenario *s, size_t length, unsigned 
 static void ask(struct scenario *s, unsigned kind, const uint8_t *body, size_t length) {
     struct step *step = &s->steps[s->count++];
     step->length = 4 + length;
-    step->frame[0] = (uint8_t)(s->version << 5 | kind);
+    step->frame[0] = (uint8_t)(1 << 5 | kind);
     step->frame[1] = kind == 2 || kind == 5 ? 0xc0 : 0x80;
     step->frame[2] = (uint8_t)(length >> 8);
     step->frame[3] = (uint8_t)length;
@@ -92,9 +87,9 @@ static void ask(struct scenario *s, unsigned kind, const uint8_t *body, size_t l
 
 static void ask_list(struct scenario *s) { ask(s, 8, (const uint8_t[]){0, 0, 0}, 3); }
 
-/* A query with 160 bytes of hashes that no record has. */
+/* A query with eight hashes that no record has. */
 static void ask_list_of_others(struct scenario *s) {
-    uint8_t body[3 + 160] = {0, 0, (uint8_t)(160 / hash_length(s))};
+    uint8_t body[3 + 160] = {0, 0, 8};
     random_bytes(body + 3, 160);
     ask(s, 8, body, sizeof body);
 }
@@ -106,16 +101,16 @@ static void ask_under(struct scenario *s, unsigned kind, const uint8_t *handle, 
     ask(s, kind, body, 10 + length);
 }
 
-/* Lends the right in the middle, by kind 3 or 4, under a new handle and returns it, and then the same under its old handle. */
-static void ask_to_lend(struct scenario *s, unsigned kind) {
+/* Lends the right in the middle under a new handle and returns it, and then the same under its old handle. */
+static void ask_to_lend(struct scenario *s) {
     uint8_t old[10], new[10];
     const uint8_t count[2] = {0, 9};
     memcpy(old, s->table + SLOT * 7 + 1, 10);
     random_bytes(new, 10);
     memcpy(s->table + SLOT * 7 + 27, count, 2);
-    ask_under(s, kind, old, new, 10);
+    ask_under(s, 4, old, new, 10);
     ask_under(s, 5, new, count, 2);
-    ask_under(s, kind, new, old, 10);
+    ask_under(s, 4, new, old, 10);
     ask_under(s, 5, old, count, 2);
 }
 
@@ -147,9 +142,9 @@ static int lay_out(struct scenario *s, unsigned index) {
     switch (index) {
     case 0: s->name = "blank, list query"; ask_list(s); break;
     case 1: s->name = "full, 100 bytes each, list query"; fill(s, 15, 100); ask_list(s); break;
-    case 2: s->name = "full, 100 bytes each, REK query and return"; fill(s, 15, 100); ask_to_lend(s, 4); break;
-    case 3: s->name = "full, 2,013 bytes each, REK query and return"; fill(s, 15, 2013); ask_to_lend(s, 4); break;
-    case 4: s->name = "full, 4,096 bytes each, REK query and return"; fill(s, 15, 4096); ask_to_lend(s, 4); break;
+    case 2: s->name = "full, 100 bytes each, REK query and return"; fill(s, 15, 100); ask_to_lend(s); break;
+    case 3: s->name = "full, 2,013 bytes each, REK query and return"; fill(s, 15, 2013); ask_to_lend(s); break;
+    case 4: s->name = "full, 4,096 bytes each, REK query and return"; fill(s, 15, 4096); ask_to_lend(s); break;
     case 5: s->name = "15 reservations, list query"; reserve(s); ask_list(s); break;
     case 6: s->name = "set-up to removal of 4,096 bytes, with 14 of 100"; fill(s, 14, 100); ask_to_install(s); break;
     case 7:
@@ -196,22 +191,10 @@ static int lay_out_refused_or_alike(struct scenario *s, unsigned index) {
     return 1;
 }
 
-/* The same for hashes of 32 bytes, and requests of version 2. */
-static int lay_out_long(struct scenario *s, unsigned index) {
-    s->version = 2;
-    switch (index) {
-    case 14: s->name = "full, 5 hashes of 32 bytes each, list query of 5 others"; fill_with_hashes(s); ask_list_of_others(s); break;
-    case 15: s->name = "full, 5 hashes of 32 bytes each, retrieval and return"; fill_with_hashes(s); ask_to_lend(s, 3); break;
-    default: return 0;
-    }
-    return 1;
-}
-
 int make_scenario(struct scenario *s, unsigned index) {
     memset(s, 0, sizeof *s);
-    s->version = 1;
     state = 0x9e3779b97f4a7c15;
-    if (!lay_out(s, index) && !lay_out_refused_or_alike(s, index) && !lay_out_long(s, index)) return 0;
+    if (!lay_out(s, index) && !lay_out_refused_or_alike(s, index)) return 0;
     s->tally = counted(s->table);
     if (s->number == 106) s->tally.payload--;
     return 1;

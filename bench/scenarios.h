@@ -12,7 +12,7 @@ struct step {
 };
 
 /* A table, the tally kept beside it, and requests that leave both, taken together, as they were. `start` is that of each
- * call, `number` what it gives, and `version` that of each request. */
+ * call, and `number` what it gives. */
 struct scenario {
     const char *name;
     uint8_t table[TABLE];
@@ -20,7 +20,6 @@ struct scenario {
     struct step steps[MOST_STEPS];
     size_t count, start;
     uint16_t number;
-    uint8_t version;
 };
 
 /* Makes the scenario of this index; gives 0 where there is none. */

@@ -1,15 +1,12 @@
 /* A coverage-guided fuzz target for the exported functions. An input is a program: the length of the table and whether it holds
- * rights, with hashes of both lengths or without any, and then what is done with it: requests of every kind in both editions
- * and frames of any bytes, each with a tally and from a start, changes to the table, turnings, salvages, and tallies worked
- * out. After each call the number, the reply buffer, the table and the tally must be those of the agent in C
- * (counterparts/c/agent.c), and so must a tally that is worked out, and number, report buffer and table of a salvage; each call
- * is made as a totalling call too, on copies and with totals that can be or cannot, and must give the same, with the change and
- * the totals that are worked out below; no return may raise a count, begin one or end one; a right may go out whole in the
- * edition of its hashes alone, and must be of the other where the status is 10; a table that was salvaged must have a tally,
- * and nothing to clear; after each turning, number and table must be those of the turning below; every request that is written
- * must have the version, the kind, the number of hashes and the count's bit asked for, and the verdict 1; no installation may
- * be written without a hash, and nothing in a version that there is not; and every reply must be one that the reply reader
- * takes, in the version of its request.
+ * rights without a hash, and then what is done with it: requests of every kind and frames of any bytes, each with a tally and
+ * from a start, changes to the table, turnings, salvages, and tallies worked out. After each call the number, the reply buffer, the
+ * table and the tally must be those of the agent in C (counterparts/c/agent.c), and so must a tally that is worked out, and number,
+ * report buffer and table of a salvage; each call is made as a totalling call too, on copies and with totals that can be or
+ * cannot, and must give the same, with the change and the totals that are worked out below; no return may raise a count, begin one
+ * or end one; a table that was salvaged must have a tally, and nothing to clear; after each turning, number and table must be those
+ * of the turning below; every request that is written must have the kind and the count's bit asked for, and the verdict 1; no
+ * installation may be written without a hash; and every reply must be one that the reply reader takes.
  *
  * All memory is lent in allocations of exactly its length, so that the address sanitiser sees any access outside it.
  */
@@ -24,10 +21,6 @@ uint16_t c_agent_tally(const uint8_t *, size_t, struct cavernlull_tally *);
 uint16_t c_agent_salvage(uint8_t *, size_t, uint8_t *, size_t);
 
 enum { SLOT = CAVERNLULL_SLOT_BYTES, HANDLE = CAVERNLULL_HANDLE_BYTES, HASH = CAVERNLULL_HASH_BYTES };
-
-static size_t hash_bytes(unsigned version) {
-    return version == CAVERNLULL_SECOND_EDITION ? CAVERNLULL_LONG_HASH_BYTES : HASH;
-}
 
 /* ---- the input, taken from the front; after its end come zeros */
 struct input {
@@ -155,15 +148,10 @@ static struct beside take_beside(struct input *in, const struct tables *t) {
     return b;
 }
 
-/* A reply has the kind bits and the version of its request, and version 1 where that has none that there is. */
-static void must_read(const uint8_t *frame, const uint8_t *reply) {
+static void must_read(const uint8_t *reply) {
     uint8_t key[CAVERNLULL_KEY_BYTES];
     uint16_t fields[CAVERNLULL_REPLY_NUMBERS];
-    unsigned second = frame[0] >> 5 == CAVERNLULL_SECOND_EDITION;
     if (cavernlull_read_reply(reply, 4 + (size_t)(reply[2] << 8 | reply[3]), key, fields) != 0) abort();
-    if (fields[CAVERNLULL_REPLY_VERSION] != (second ? CAVERNLULL_SECOND_EDITION : CAVERNLULL_FIRST_EDITION)) abort();
-    if (fields[CAVERNLULL_REPLY_KIND] != (frame[0] & 31)) abort();
-    if (reply[0] != (fields[CAVERNLULL_REPLY_VERSION] << 5 | fields[CAVERNLULL_REPLY_KIND])) abort();
     if (fields[CAVERNLULL_REPLY_STATUS] != (reply[1] & 127)) abort();
     if (fields[CAVERNLULL_REPLY_KEPT] != reply[1] >> 7) abort();
 }
@@ -196,7 +184,7 @@ static void free_totalled(struct totalled *c) {
     free(c->returns);
 }
 
-/* The record under the handle of a request that found one: the table before it has it. */
+/* The record under the handle of a return that was a success: the table before it has one. */
 static const uint8_t *record_of(const uint8_t *table, size_t length, const uint8_t *frame) {
     for (size_t at = 0; at < length; at += SLOT)
         if (table[at] != 0 && memcmp(table + at + 1, frame + 4, HANDLE) == 0) return table + at;
@@ -220,23 +208,6 @@ static void add_change(struct sums *s, const uint8_t *table, size_t length, cons
     s->change = (frame[14] << 8 | frame[15]) - (record[27] << 8 | record[28]);
     s->total += s->change;
     s->returns++;
-}
-
-/* The version that the hashes of a record are of; 0 where it has none. */
-static unsigned version_of(const uint8_t *record) {
-    if ((record[0] >> 2 & 15) == 0) return 0;
-    return record[0] & CAVERNLULL_LONG_IN_SLOT ? CAVERNLULL_SECOND_EDITION : CAVERNLULL_FIRST_EDITION;
-}
-
-/* A right goes out whole in the version of its hashes alone, or in either where it has none; with status 10 it is one of the other
- * (PROFILE 5.3). This is the table before the call. */
-static void must_be_of_edition(const uint8_t *table, size_t length, const uint8_t *frame, const uint8_t *reply) {
-    int needed = reply[1] == CAVERNLULL_EDITION_NEEDED, given = (reply[1] & 127) == CAVERNLULL_SUCCESS;
-    if ((frame[0] & 31) != CAVERNLULL_RIGHTS_RETRIEVAL) given = 0;
-    if (!needed && !given) return;
-    unsigned version = version_of(record_of(table, length, frame));
-    int other = version != 0 && version != frame[0] >> 5;
-    if (other != needed || (frame[0] & 31) != CAVERNLULL_RIGHTS_RETRIEVAL) abort();
 }
 
 /* A totalling call must have done what the call did, of which these are number, reply buffer and tally, and must have added its
@@ -271,12 +242,11 @@ static void call(struct tables *t, const struct beside *b, const uint8_t *bytes,
     same(t->ours, t->theirs, t->length);
     same(ours, theirs, sizeof *ours);
     must_total(&totalled, t, b, frame, number, reply, room, ours);
+    free_totalled(&totalled);
     if (number == 0) {
-        must_read(frame, reply);
-        must_be_of_edition(totalled.before, t->length, frame, reply);
+        must_read(reply);
         t->tally = *ours;
     } else same(ours, &b->tally, sizeof *ours);
-    free_totalled(&totalled);
     free(frame);
     free(reply);
     free(other);
@@ -336,39 +306,29 @@ static void whole_input(struct input *in, struct tables *t, const uint8_t *bytes
     call(t, &b, bytes, length, take_length(in));
 }
 
-/* The fields of a request, with its version; those that its kind lacks stay blank. */
+/* The fields of a request; those that its kind lacks stay blank. */
 struct fields {
     const uint8_t *handle, *other, *key;
     uint16_t room, count, limit;
-    uint8_t kept, version;
+    uint8_t kept;
     size_t hashes, payload;
 };
 
-static uint8_t payload[65535], hashes[9 * CAVERNLULL_LONG_HASH_BYTES], out[70000];
-
-/* What was written has whole hashes of its version, and says how many. */
-static void must_have_hashes(unsigned kind, const struct fields *f) {
-    size_t number = f->hashes / hash_bytes(f->version);
-    if (f->hashes % hash_bytes(f->version) != 0 || f->hashes > CAVERNLULL_MOST_HASH_BYTES) abort();
-    if (kind == CAVERNLULL_RIGHTS_INSTALLATION && out[4 + 28] != number << 4) abort();
-    if (kind == CAVERNLULL_HANDLE_LIST_QUERY && out[4 + 2] != number) abort();
-}
+static uint8_t payload[65535], hashes[9 * HASH], out[70000];
 
 /* Writes a request, and gives whether the writer takes it. */
 static int written(unsigned kind, const struct fields *f) {
-    if (cavernlull_write_request(f->version, (uint8_t)kind, f->handle, f->other, f->key, f->room, f->count, f->kept, f->limit,
-                                 hashes, f->hashes, payload, f->payload, out, sizeof out) != 0) return 0;
-    if (f->version != CAVERNLULL_FIRST_EDITION && f->version != CAVERNLULL_SECOND_EDITION) abort();
+    if (cavernlull_write_request((uint8_t)kind, f->handle, f->other, f->key, f->room, f->count, f->kept, f->limit, hashes,
+                                 f->hashes, payload, f->payload, out, sizeof out) != 0) return 0;
     if (f->kept > 1 || (f->count != 0 && f->kept == 0)) abort();
-    if (out[0] != (f->version << 5 | kind) || out[1] != (f->kept ? 0x80 | CAVERNLULL_KEPT_IN_REQUEST : 0x80)) abort();
-    must_have_hashes(kind, f);
+    if ((out[0] & 31) != kind || out[1] != (f->kept ? 0x80 | CAVERNLULL_KEPT_IN_REQUEST : 0x80)) abort();
     return 1;
 }
 
 /* Writes an installation without a hash: the writer refuses it, so it is written with one, which is taken off. */
 static int written_without_hash(struct fields f) {
     if (written(CAVERNLULL_RIGHTS_INSTALLATION, &f)) abort();
-    f.hashes = hash_bytes(f.version);
+    f.hashes = HASH;
     if (!written(CAVERNLULL_RIGHTS_INSTALLATION, &f)) return 0;
     size_t length = 29 + f.payload;
     out[2] = (uint8_t)(length >> 8);
@@ -378,32 +338,18 @@ static int written_without_hash(struct fields f) {
     return 1;
 }
 
-/* A version: 1 or 2 as a rule, else any number. */
-static uint8_t take_version(uint8_t how, struct input *in) {
-    if (how >= 250) return take(in);
-    return how & 1 ? CAVERNLULL_SECOND_EDITION : CAVERNLULL_FIRST_EDITION;
-}
-
-/* Hashes of a version: few as a rule, else up to one more than the most of the first edition, or bytes that are no whole hashes.
- * One of 20 bytes is the beginning of one of 32. Gives how many bytes they have. */
-static size_t put_hashes(uint8_t version, uint8_t how, uint8_t names) {
-    size_t width = hash_bytes(version), few = names >> 4 & 3, many = how >> 3 & 7;
-    for (size_t i = 0; i < sizeof hashes; i++) hashes[i] = (uint8_t)(i / width + (names >> 6));
-    if ((how & 6) == 6) return (many + 2) * width;
-    return few * width + (how >= 240 ? many : 0);
-}
-
 /* A request of a kind, about few handles and few hashes. */
 static void request(struct input *in, struct tables *t, unsigned kind) {
     static const uint8_t none[16];
-    uint8_t names = take(in), how = take(in), version = take_version(how, in), handle[HANDLE], other[HANDLE];
+    uint8_t names = take(in), handle[HANDLE], other[HANDLE];
     memset(handle, names & 3, HANDLE);
     memset(other, names >> 2 & 3, HANDLE);
-    size_t listed = put_hashes(version, how, names);
+    for (size_t i = 0; i < sizeof hashes; i++) hashes[i] = (uint8_t)(i / HASH + (names >> 6));
+    size_t listed = (names >> 4 & 3) * HASH;
     uint16_t n = take_length(in), count = take_word(in);
     uint8_t kept = take(in) % 3; /* 2 is refused */
     memset(payload, (int)count, n);
-    struct fields f = {handle, none, none, 0, 0, 0, 0, version, 0, 0};
+    struct fields f = {handle, none, none, 0, 0, 0, 0, 0, 0};
     switch (kind) {
     case 1: f.room = n; break;
     case 2: f.key = payload; f.count = count; f.kept = kept; f.hashes = listed; f.payload = n; break;
@@ -429,7 +375,7 @@ static void copy_handle(struct tables *t, size_t to, size_t from) {
 
 /* Changes the table: a handle, a byte that a rule is about, or any byte. */
 static void change(struct input *in, struct tables *t) {
-    static const uint16_t offsets[] = {0, 1, 10, 11, 27, 28, 29, 30, 31, 50, 51, 62, 63, 158, 159, 190, 191, 192, 4286, 4287};
+    static const uint16_t offsets[] = {0, 1, 10, 11, 27, 28, 29, 30, 31, 50, 51, 190, 191, 192, 4286, 4287};
     size_t slot = take(in) % 16, where = take(in), at = slot * SLOT;
     if (where >= 128) {
         copy_handle(t, slot, where);
@@ -495,25 +441,19 @@ static void any_reply(struct input *in) {
     if (length) memcpy(frame, in->at, length);
     uint16_t number = cavernlull_read_reply(frame, length, key, fields);
     if (number != 0 && number != CAVERNLULL_NO_REPLY) abort();
-    if (number == 0 && (fields[CAVERNLULL_REPLY_VERSION] != frame[0] >> 5 || fields[CAVERNLULL_REPLY_VERSION] - 1u > 1)) abort();
     in->at += length;
     in->left -= length;
     free(frame);
 }
 
-/* Puts rights into the first three slots of a blank table, under handles that requests are about: the second one is lent, and
- * keeps a count if `kept` is not 0. They have a hash each, of 20 bytes in the first slot and of 32 in the others, or none
- * (PROFILE 2.9), as no call brings them. */
-static void put_rights(struct tables *t, int hashed, int kept, uint16_t count) {
+/* Puts rights without a hash (PROFILE 2.9) into the first three slots of a blank table, under handles that requests are about: the
+ * second one is lent, and keeps a count if `kept` is not 0. No call brings such a right. */
+static void put_old_rights(struct tables *t, int kept, uint16_t count) {
     for (size_t i = 0; i < 3 && (i + 1) * SLOT <= t->length; i++) {
         uint8_t *s = t->ours + i * SLOT;
         s[0] = i == 1 ? 0xc0 : 0x80;
         memset(s + 1, (int)i, HANDLE);
         memset(s + 11, 7, CAVERNLULL_KEY_BYTES);
-        if (hashed) {
-            s[0] |= 1 << 2 | (i > 0 ? CAVERNLULL_LONG_IN_SLOT : 0);
-            memset(s + 31, 1, i > 0 ? CAVERNLULL_LONG_HASH_BYTES : HASH);
-        }
         if (i == 1 && kept) {
             s[0] |= CAVERNLULL_KEPT_IN_SLOT;
             s[27] = (uint8_t)(count >> 8);
@@ -531,9 +471,8 @@ int LLVMFuzzerTestOneInput(const uint8_t *bytes, size_t length) {
     uint8_t slots = take(&in);
     size_t size = (size_t)(slots & 15) * SLOT + (slots >> 4 == 15 ? take(&in) : 0);
     struct tables t = {lent(size, 0), lent(size, 0), size, {(uint16_t)(size / SLOT), 0, 0, 0, 0}};
-    if (slots >> 4 == 12 || slots >> 4 == 15) put_rights(&t, 0, 0, 0);
-    else if (slots >> 4 >= 10) put_rights(&t, 0, 1, take_word(&in));
-    else if (slots >> 4 >= 6) put_rights(&t, 1, slots >> 4 & 1, take_word(&in));
+    if (slots >> 4 == 12 || slots >> 4 == 15) put_old_rights(&t, 0, 0);
+    else if (slots >> 4 >= 10) put_old_rights(&t, 1, take_word(&in));
     for (unsigned steps = 0; in.left > 0 && steps < 64; steps++) {
         uint8_t what = take(&in) % 17;
         if (what >= 1 && what <= 9) request(&in, &t, what);

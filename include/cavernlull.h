@@ -20,12 +20,12 @@ extern "C" {
 #endif
 
 /* The version of the library. */
-#define CAVERNLULL_VERSION_MAJOR 8
+#define CAVERNLULL_VERSION_MAJOR 7
 #define CAVERNLULL_VERSION_MINOR 0
 #define CAVERNLULL_VERSION_PATCH 0
-#define CAVERNLULL_VERSION "8.0.0"
+#define CAVERNLULL_VERSION "7.0.0"
 
-/* Sizes in bytes, and the most slots and hashes (PROFILE 1.3). Hash length and most hashes are by the edition, below. */
+/* Sizes in bytes, and the most slots and hashes (PROFILE 1.3). */
 enum {
     CAVERNLULL_SLOT_BYTES = 4288,
     CAVERNLULL_MOST_SLOTS = 15,
@@ -33,39 +33,9 @@ enum {
     CAVERNLULL_MOST_PAYLOAD = 4096,
     CAVERNLULL_HANDLE_BYTES = 10,
     CAVERNLULL_KEY_BYTES = 16,
-    CAVERNLULL_HASH_BYTES = 20,       /* in the first edition */
-    CAVERNLULL_LONG_HASH_BYTES = 32,  /* in the second */
-    CAVERNLULL_MOST_HASHES = 8,       /* of 20 bytes, in a record, a query or an installation; an installation has 1 at least */
-    CAVERNLULL_MOST_LONG_HASHES = 5,  /* of 32 bytes */
-    CAVERNLULL_MOST_HASH_BYTES = 160, /* of all hashes together, in either */
+    CAVERNLULL_HASH_BYTES = 20,
+    CAVERNLULL_MOST_HASHES = 8, /* in a record, a query or an installation; an installation has 1 at least */
     CAVERNLULL_LISTING_ROOM = 406 /* room for every listing */
-};
-
-/* The two editions (PROFILE 1.4), by the version in the top three bits of a frame's first byte. Asset hashes have 20 bytes (SHA-1)
- * or 32 (SHA-256), and an edition goes with each length:
- *
- *   edition  version  hash bytes  most hashes  first byte of a frame  bit CAVERNLULL_LONG_IN_SLOT of a record
- *   first    1        20          8            0x20 plus the kind     0
- *   second   2        32          5            0x40 plus the kind     1
- *
- * Every kind may be sent in either edition, and is answered in the same. Only kinds 2, 3 and 8 have hashes, so only with them
- * does it matter which:
- *   2  A right is installed in the edition of its hashes, and keeps it. Rights of both editions may stand on one card.
- *   3  A right goes out whole in the edition of its hashes alone. In the other the status is 10, CAVERNLULL_EDITION_NEEDED, and
- *      nothing changes: send the same request once more with the other version. A right without a hash goes out in either.
- *   8  A query finds rights by hashes of its own length alone: by 20 bytes never a right with 32, even one that begins with
- *      them. With no hash it lists the rights of both editions, in either version.
- * All else is done in either edition with every right: it is lent by kind 4, returned, read and removed. Where all hashes have 20
- * bytes, version 1 serves for everything. */
-enum {
-    CAVERNLULL_FIRST_EDITION = 1,
-    CAVERNLULL_SECOND_EDITION = 2
-};
-
-/* The bit of a slot's first byte that says that its hashes have 32 bytes (PROFILE 2.2). It is 1 only where the slot holds a right
- * with 1 to 5 hashes. */
-enum {
-    CAVERNLULL_LONG_IN_SLOT = 0x01
 };
 
 /* The numbers that functions return. With 101 and every number above it, all lent memory stays as it was, but for the change that
@@ -100,7 +70,7 @@ enum {
 
 /* The statuses, in a reply's second byte (PROFILE 4.2). In replies to kinds 3 and 9 the top bit of that byte is the count's
  * (CAVERNLULL_KEPT_IN_REPLY), and the status is the other seven bits. With every status but 0, the table stays as it was. 8 is
- * not used: no card sends it, and the reply reader refuses it. 9 is for kind 5 alone, and 10 for kind 3. */
+ * not used: no card sends it, and the reply reader refuses it. 9 is for kind 5 alone. */
 enum {
     CAVERNLULL_SUCCESS = 0,
     CAVERNLULL_FIELD_INTEGRITY_VERIFICATION_FAILED = 1,
@@ -110,8 +80,7 @@ enum {
     CAVERNLULL_DUPLICATE_HANDLE = 5,
     CAVERNLULL_UNEXPECTED_REQUEST = 6,
     CAVERNLULL_NOT_ENOUGH_SPACE = 7,
-    CAVERNLULL_COUNT_RAISED = 9,   /* the count sent would raise, begin or end that of the lent right */
-    CAVERNLULL_EDITION_NEEDED = 10 /* the right has hashes of the other edition: ask once more in that one */
+    CAVERNLULL_COUNT_RAISED = 9 /* the count sent would raise, begin or end that of the lent right */
 };
 
 /* The bit that says that a count is kept (PROFILE 2.6). Where it is 0, none is kept, and the count must be 0. Where it is 1,
@@ -149,8 +118,8 @@ struct cavernlull_tally {
  *   101 CAVERNLULL_REPLY_BUFFER_SHORT     the reply buffer has fewer than 4,279 bytes
  *   102 CAVERNLULL_TABLE_LENGTH           the table is not 1 to 15 slots of 4,288 bytes
  *   105 CAVERNLULL_START_OUTSIDE          `start` is not below the number of slots, whatever the frame
- *   103 CAVERNLULL_TABLE_NOT_WELL_FORMED  a slot is not well formed, by a count without its bit or more than five long hashes for
- *                                         example, or two records have the same handle
+ *   103 CAVERNLULL_TABLE_NOT_WELL_FORMED  a slot is not well formed, by a count without its bit for example, or two records
+ *                                         have the same handle
  *   106 CAVERNLULL_TALLY_DIFFERS          `tally` is not the tally of the table, whatever the frame
  *   104 CAVERNLULL_NO_FRAME               the frame has fewer than 4 bytes, or is not 4 plus its body length long
  * Where the card refuses to carry out the request, the call returns 0, with a reply whose status is not 0.
@@ -205,8 +174,7 @@ uint16_t cavernlull_call_totalling(uint8_t *table, size_t table_length, struct c
 uint16_t cavernlull_tally(const uint8_t *table, size_t table_length, struct cavernlull_tally *tally);
 
 /* The device's request writer (PROFILE 6.2): writes the request frame of a kind and its fields at the start of `out`, with
- * the verdict 1. `version` is CAVERNLULL_FIRST_EDITION or CAVERNLULL_SECOND_EDITION. `handle` and `new_handle` are 10 bytes,
- * `key` is 16. A field that the kind lacks must be zero or empty:
+ * the verdict 1. `handle` and `new_handle` are 10 bytes, `key` is 16. A field that the kind lacks must be zero or empty:
  *
  *   kind                             fields
  *   1  Installation Setup            handle, room (the length asked for)
@@ -219,47 +187,42 @@ uint16_t cavernlull_tally(const uint8_t *table, size_t table_length, struct cave
  *   8  Handle List Query             limit, hashes
  *   9  Rights Information Query      handle
  *
- * `kept` is 1 where a count is kept, and 0 where none is: `count` must then be 0. `hashes` are 20 bytes each in version 1, at most
- * 8 of them, and 32 bytes each in version 2, at most 5. Kind 2 has one at least, since a right is found by them; for kind 8 none
- * asks for all handles. Of the hashes the writer sees only how many bytes they have: 160 are 8 hashes in version 1, and 5 in
- * version 2.
+ * `kept` is 1 where a count is kept, and 0 where none is: `count` must then be 0. `hashes` are 20 bytes each: 1 to 8 of them for
+ * kind 2, since a right is found by them, and 0 to 8 for kind 8, where none asks for all handles.
  *
  * Returns 0 when it has written the frame at the start of `out`. The frame's length is 4 plus the 16-bit number, high byte
  * first, in its third and fourth bytes; the bytes after it keep what they held.
  *
  * Otherwise returns the first of these numbers that applies, and does not change `out`:
- *   202 CAVERNLULL_WRITER_FIELDS        the version is neither 1 nor 2; the kind is not 1 to 9; the hashes are not 0 to 8 times
- *                                       20 bytes in version 1, or 0 to 5 times 32 in version 2; kind 2 has no hash; its payload
- *                                       is not 1 to 4,096 bytes; `kept` is over 1; `count` is not 0 though `kept` is 0; or a
- *                                       field that the kind lacks is not zero or empty
+ *   202 CAVERNLULL_WRITER_FIELDS        the kind is not 1 to 9; the hashes are not 0 to 8 times 20 bytes; kind 2 has no hash; its
+ *                                       payload is not 1 to 4,096 bytes; `kept` is over 1; `count` is not 0 though `kept` is 0;
+ *                                       or a field that the kind lacks is not zero or empty
  *   201 CAVERNLULL_WRITER_BUFFER_SHORT  the frame does not fit into `out`
  */
-uint16_t cavernlull_write_request(uint8_t version, uint8_t kind, const uint8_t *handle, const uint8_t *new_handle,
-                                  const uint8_t *key, uint16_t room, uint16_t count, uint8_t kept, uint16_t limit,
-                                  const uint8_t *hashes, size_t hashes_length, const uint8_t *payload, size_t payload_length,
-                                  uint8_t *out, size_t out_length);
+uint16_t cavernlull_write_request(uint8_t kind, const uint8_t *handle, const uint8_t *new_handle, const uint8_t *key,
+                                  uint16_t room, uint16_t count, uint8_t kept, uint16_t limit, const uint8_t *hashes,
+                                  size_t hashes_length, const uint8_t *payload, size_t payload_length, uint8_t *out,
+                                  size_t out_length);
 
-/* The twelve numbers that the reply reader writes, by index. An offset counts from the frame's first byte. */
+/* The eleven numbers that the reply reader writes, by index. An offset counts from the frame's first byte. */
 enum {
     CAVERNLULL_REPLY_KIND = 0,
     CAVERNLULL_REPLY_STATUS = 1, /* without the count's bit */
     CAVERNLULL_REPLY_COUNT = 2,
-    CAVERNLULL_REPLY_HASHES = 3,    /* how many, of 20 bytes each, or of 32 where the version is 2 */
+    CAVERNLULL_REPLY_HASHES = 3,    /* how many, of 20 bytes each */
     CAVERNLULL_REPLY_HASHES_AT = 4, /* the offset of the first */
     CAVERNLULL_REPLY_PAYLOAD_AT = 5,
     CAVERNLULL_REPLY_PAYLOAD_LENGTH = 6,
     CAVERNLULL_REPLY_MORE = 7,    /* 1 if a handle was left off the list, else 0 */
     CAVERNLULL_REPLY_HANDLES = 8, /* how many, of 10 bytes each */
     CAVERNLULL_REPLY_HANDLES_AT = 9,
-    CAVERNLULL_REPLY_KEPT = 10,    /* 1 if the reply says that a count is kept, else 0 */
-    CAVERNLULL_REPLY_VERSION = 11, /* CAVERNLULL_FIRST_EDITION or CAVERNLULL_SECOND_EDITION: that of the request */
-    CAVERNLULL_REPLY_NUMBERS = 12
+    CAVERNLULL_REPLY_KEPT = 10, /* 1 if the reply says that a count is kept, else 0 */
+    CAVERNLULL_REPLY_NUMBERS = 11
 };
 
-/* The device's reply reader (PROFILE 6.3): takes a reply frame apart. `key` is 16 bytes, `fields` twelve numbers.
+/* The device's reply reader (PROFILE 6.3): takes a reply frame apart. `key` is 16 bytes, `fields` eleven numbers.
  *
- * Returns 0 when it has written all of `key` and `fields`. What the reply lacks is 0. Beside version, kind and status, a success
- * has:
+ * Returns 0 when it has written all of `key` and `fields`. What the reply lacks is 0. Beside kind and status, a success has:
  *
  *   3  Rights Retrieval              key, count, kept, hashes, payload
  *   4  REK Query                     key
@@ -267,10 +230,10 @@ enum {
  *   9  Rights Information Query      count, kept, payload
  *
  * Otherwise returns this number, and changes neither `key` nor `fields`:
- *   203 CAVERNLULL_NO_REPLY  the frame is not 4 plus its body length long; its version is neither 1 nor 2; its status is not 0 to
- *                            7, 9 or 10; it has a body though its status is not 0; its status is 0 and its body is not of the shape
- *                            of its kind and version (a kind outside 1 to 9 has none); the count's bit is set though it is no
- *                            success of kind 3 or 9; or it has a count that is not 0 though that bit is 0
+ *   203 CAVERNLULL_NO_REPLY  the frame is not 4 plus its body length long; its version is not 1; its status is not 0 to 7 or
+ *                            9; it has a body though its status is not 0; its status is 0 and its body is not of its kind's
+ *                            shape (a kind outside 1 to 9 has none); the count's bit is set though it is no success of kind 3
+ *                            or 9; or it has a count that is not 0 though that bit is 0
  */
 uint16_t cavernlull_read_reply(const uint8_t *frame, size_t frame_length, uint8_t *key, uint16_t *fields);
 
@@ -278,8 +241,7 @@ uint16_t cavernlull_read_reply(const uint8_t *frame, size_t frame_length, uint8_
  * and returns its length. The bytes after it keep what they held; no zero byte ends it. Each line ends with a newline:
  *
  *   slot place hashes count length        the header
- *   0 enabled 2 5 300                     a line for each slot; the place is empty, reserved, enabled or disabled, and hashes are
- *                                         counted in either edition
+ *   0 enabled 2 5 300                     a line for each slot; the place is empty, reserved, enabled or disabled
  *
  * For a table that the agent would refuse, the listing is one line with the agent's number:
  *   refused 102                           the table is not 1 to 15 slots of 4,288 bytes
@@ -288,7 +250,7 @@ uint16_t cavernlull_read_reply(const uint8_t *frame, size_t frame_length, uint8_
 size_t cavernlull_list(const uint8_t *table, size_t table_length, uint8_t *out);
 
 /* The turning of an old table (PROFILE 2.7), in place. A table that a version before 3.0.0 wrote has no bit for the count: both
- * low bits of a slot's first byte are 0, and a count of 0 says that none is kept. With a count in it, the agent and the
+ * spare bits of a slot's first byte are 0, and a count of 0 says that none is kept. With a count in it, the agent and the
  * listing refuse such a table with 103. It is turned once.
  *
  * Returns 0 when it has set CAVERNLULL_KEPT_IN_SLOT in the first byte of each slot whose count is not 0. No other byte changes,
@@ -297,8 +259,8 @@ size_t cavernlull_list(const uint8_t *table, size_t table_length, uint8_t *out);
  * Otherwise returns the first of these numbers that applies, and does not change `table`:
  *   102 CAVERNLULL_TABLE_LENGTH           the table is not 1 to 15 slots of 4,288 bytes
  *   103 CAVERNLULL_TABLE_NOT_WELL_FORMED  a slot is not well formed by the old rules, or two records have the same handle
- * A table in which a count is kept or a hash has 32 bytes is not well formed by the old rules, and so is not turned again. One
- * without either may be turned again, and stays as it is.
+ * A table in which a count is kept is not well formed by the old rules, and so is not turned again. One without counts may be
+ * turned again, and stays as it is.
  */
 uint16_t cavernlull_turn(uint8_t *table, size_t table_length);
 

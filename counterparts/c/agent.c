@@ -19,11 +19,11 @@ int memcmp(const void *a, const void *b, size_t length);
 void *memcpy(void *restrict to, const void *restrict from, size_t length);
 void *memset(void *to, int byte, size_t length);
 
-enum { SLOT = 4288, SLOTS = 15, HANDLE = 10, KEY = 16, HASH = 20, LONG_HASH = 32, PAYLOAD = 4096, REPLY = 4279, BLOCK = 512 };
+enum { SLOT = 4288, SLOTS = 15, HANDLE = 10, KEY = 16, HASH = 20, HASHES = 8, PAYLOAD = 4096, REPLY = 4279, BLOCK = 512 };
 enum { AT_HANDLE = 1, AT_KEY = 11, AT_COUNT = 27, AT_LENGTH = 29, AT_HASHES = 31, AT_ZERO = 191, AT_PAYLOAD = 192 };
 enum { EMPTY, RESERVED, ENABLED, DISABLED };
-enum { LONG = 0x01, KEPT = 0x02 }; /* bits of a slot's first byte; LONG: hashes have 32 bytes, KEPT: a count is kept */
-enum { SUCCESS, INTEGRITY, PARAMETER, UNSUPPORTED, NOT_FOUND, DUPLICATE, UNEXPECTED, NO_SPACE, RAISED = 9, EDITION };
+enum { SPARE = 0x01, KEPT = 0x02 }; /* bits of a slot's first byte; KEPT: a count is kept */
+enum { SUCCESS, INTEGRITY, PARAMETER, UNSUPPORTED, NOT_FOUND, DUPLICATE, UNEXPECTED, NO_SPACE, RAISED = 9 };
 
 /* ---- bytes */
 static unsigned word(const uint8_t *s) { return (unsigned)s[0] << 8 | s[1]; }
@@ -45,27 +45,21 @@ static bool all_zero(const uint8_t *s, size_t n) {
     return zero_block(s, n);
 }
 
-/* ---- editions (PROFILE 1.4): LONG or 0, as a slot has it */
-static size_t hash_size(unsigned edition) { return edition ? LONG_HASH : HASH; }
-static unsigned most_hashes(unsigned edition) { return edition ? 5 : 8; }
-
 /* ---- slots */
 static unsigned place_of(const uint8_t *s) { return s[0] >> 6; }
 static unsigned hashes_of(const uint8_t *s) { return s[0] >> 2 & 15; }
-static unsigned edition_of(const uint8_t *s) { return s[0] & LONG; }
 
 /* A count without its bit must be 0. */
 static bool is_count(unsigned kept, const uint8_t *count) { return kept || word(count) == 0; }
 
-/* A slot with the mark has a hash at least: LONG is 1. */
 static bool well_slot(const uint8_t *s) {
-    unsigned place = place_of(s), hashes = hashes_of(s), edition = edition_of(s), length = word(s + AT_LENGTH);
+    unsigned place = place_of(s), hashes = hashes_of(s), length = word(s + AT_LENGTH);
     if (place == EMPTY) return all_zero(s, SLOT);
-    if (hashes < edition || hashes > most_hashes(edition) || length == 0 || length > PAYLOAD || s[AT_ZERO]) return false;
+    if (hashes > HASHES || length == 0 || length > PAYLOAD || (s[0] & SPARE) || s[AT_ZERO]) return false;
     if (place == RESERVED)
         return s[0] == RESERVED << 6 && all_zero(s + AT_KEY, AT_LENGTH - AT_KEY) && all_zero(s + AT_HASHES, SLOT - AT_HASHES);
     if (!is_count(s[0] & KEPT, s + AT_COUNT)) return false;
-    size_t used = AT_HASHES + hash_size(edition) * hashes, end = AT_PAYLOAD + length;
+    size_t used = AT_HASHES + HASH * hashes, end = AT_PAYLOAD + length;
     return all_zero(s + used, AT_ZERO - used) && all_zero(s + end, SLOT - end);
 }
 
@@ -123,11 +117,6 @@ static unsigned zero_bits(unsigned kind) { return kind == 2 || kind == 5 ? 0x3f 
 /* The count's bit of a request, as a slot has it. */
 static unsigned kept_asked(const uint8_t *frame) { return frame[1] >> 5 & KEPT; }
 
-static unsigned version_of(const uint8_t *frame) { return frame[0] >> 5; }
-
-/* The edition of a request, if there is its version. */
-static unsigned edition_asked(const uint8_t *frame) { return version_of(frame) == 2 ? LONG : 0; }
-
 static unsigned length_status(unsigned kind, size_t n) {
     static const uint8_t sizes[10] = {0, 12, 0, 20, 20, 12, 10, 10, 0, 10};
     if (kind < 1 || kind > 9) return UNSUPPORTED;
@@ -136,40 +125,38 @@ static unsigned length_status(unsigned kind, size_t n) {
     return n == sizes[kind] ? SUCCESS : PARAMETER;
 }
 
-static unsigned field_status(unsigned kind, unsigned kept, unsigned edition, const uint8_t *body, size_t n) {
-    size_t w = hash_size(edition), most = most_hashes(edition);
+static unsigned field_status(unsigned kind, unsigned kept, const uint8_t *body, size_t n) {
     if (kind == 2) {
-        size_t hashes = body[28] >> 4, used = 29 + w * hashes;
+        size_t hashes = body[28] >> 4, used = 29 + HASH * hashes;
         if (!is_count(kept, body + HANDLE + KEY)) return PARAMETER;
-        if (hashes == 0 || hashes > most || (body[28] & 15)) return PARAMETER;
+        if (hashes == 0 || hashes > HASHES || (body[28] & 15)) return PARAMETER;
         return n <= used || n - used > PAYLOAD ? PARAMETER : SUCCESS;
     }
     if (kind == 5) return is_count(kept, body + HANDLE) ? SUCCESS : PARAMETER;
-    if (kind == 8) return body[2] > most || n != 3 + w * body[2] ? PARAMETER : SUCCESS;
+    if (kind == 8) return body[2] > HASHES || n != 3 + HASH * (size_t)body[2] ? PARAMETER : SUCCESS;
     return SUCCESS;
 }
 
 static unsigned request_status(const uint8_t *frame, size_t n) {
-    unsigned kind = frame[0] & 31, version = version_of(frame), status;
-    if ((version != 1 && version != 2) || (frame[1] & zero_bits(kind))) return PARAMETER;
+    unsigned kind = frame[0] & 31, status;
+    if (frame[0] >> 5 != 1 || (frame[1] & zero_bits(kind))) return PARAMETER;
     if ((status = length_status(kind, n - 4)) != SUCCESS) return status;
     if (kind <= 7 && frame[1] < 128) return INTEGRITY;
-    return field_status(kind, kept_asked(frame), edition_asked(frame), frame + 4, n - 4);
+    return field_status(kind, kept_asked(frame), frame + 4, n - 4);
 }
 
 /* ---- replies */
 /* The count's bit of a slot, as a reply has it. */
 static unsigned kept_told(const uint8_t *s) { return s[0] << 6 & 128; }
 
-/* A request of a version that there is not is answered in version 1. */
-static void reply_head(uint8_t *reply, const uint8_t *frame, unsigned status, size_t body) {
-    reply[0] = (uint8_t)((edition_asked(frame) ? 2 : 1) << 5 | (frame[0] & 31));
+static void reply_head(uint8_t *reply, unsigned kind, unsigned status, size_t body) {
+    reply[0] = (uint8_t)(1 << 5 | kind);
     reply[1] = (uint8_t)status;
     put_word(reply + 2, (unsigned)body);
 }
 
 static size_t put_right(uint8_t *body, const uint8_t *s) {
-    size_t hashes = hash_size(edition_of(s)) * hashes_of(s), length = word(s + AT_LENGTH);
+    size_t hashes = HASH * hashes_of(s), length = word(s + AT_LENGTH);
     memcpy(body, s + AT_KEY, KEY + 2);
     body[18] = (uint8_t)(hashes_of(s) << 4);
     memcpy(body + 19, s + AT_HASHES, hashes);
@@ -184,7 +171,7 @@ struct call {
     struct cavernlull_tally *tally;
     const uint8_t *body;
     size_t n, given;
-    unsigned kept, edition, told;
+    unsigned kept, told;
 };
 
 /* The first empty slot from slot `s` on; `end` where there is none. */
@@ -210,14 +197,14 @@ static unsigned set_up(struct call *c) {
 
 static unsigned install(struct call *c, uint8_t *s) {
     unsigned hashes = c->body[28] >> 4;
-    size_t used = hash_size(c->edition) * hashes, length = c->n - 29 - used;
+    size_t length = c->n - 29 - HASH * hashes;
     if (place_of(s) != RESERVED) return UNEXPECTED;
     if (length > word(s + AT_LENGTH)) return NO_SPACE;
-    s[0] = (uint8_t)(ENABLED << 6 | hashes << 2 | c->kept | c->edition);
+    s[0] = (uint8_t)(ENABLED << 6 | hashes << 2 | c->kept);
     memcpy(s + AT_KEY, c->body + HANDLE, KEY + 2);
     put_word(s + AT_LENGTH, (unsigned)length);
-    memcpy(s + AT_HASHES, c->body + 29, used);
-    memcpy(s + AT_PAYLOAD, c->body + 29 + used, length);
+    memcpy(s + AT_HASHES, c->body + 29, HASH * hashes);
+    memcpy(s + AT_PAYLOAD, c->body + 29 + HASH * hashes, length);
     c->tally->reserved--;
     c->tally->enabled++;
     c->tally->payload = (uint16_t)(c->tally->payload + length);
@@ -226,7 +213,6 @@ static unsigned install(struct call *c, uint8_t *s) {
 
 static unsigned lend(struct call *c, uint8_t *s, bool whole) {
     if (place_of(s) != ENABLED) return UNEXPECTED;
-    if (whole && hashes_of(s) != 0 && edition_of(s) != c->edition) return EDITION;
     if (find(c->table, c->end, c->body + HANDLE) < c->end) return DUPLICATE;
     if (whole) {
         c->given = put_right(c->reply + 4, s);
@@ -276,27 +262,17 @@ static unsigned inform(struct call *c, const uint8_t *s) {
     return SUCCESS;
 }
 
-/* `w` is the length of a hash, here and there. It is a constant in each call, so that memcmp becomes a few instructions. */
-static inline bool has_some(const uint8_t *s, const uint8_t *asked, unsigned n, size_t w) {
+static bool has_some(const uint8_t *s, const uint8_t *asked, unsigned n) {
     for (unsigned i = 0; i < hashes_of(s); i++)
         for (unsigned k = 0; k < n; k++)
-            if (memcmp(s + AT_HASHES + w * i, asked + w * k, w) == 0) return true;
+            if (memcmp(s + AT_HASHES + HASH * i, asked + HASH * k, HASH) == 0) return true;
     return false;
-}
-
-/* Whether a record has a hash of the query, which those of the other edition have not. */
-static bool is_asked_for(const struct call *c, const uint8_t *s) {
-    const uint8_t *asked = c->body + 3;
-    unsigned n = c->body[2];
-    if (n == 0) return true;
-    if (edition_of(s) != c->edition) return false;
-    return c->edition ? has_some(s, asked, n, LONG_HASH) : has_some(s, asked, n, HASH);
 }
 
 static unsigned list(struct call *c) {
     unsigned limit = word(c->body), most = limit == 0 ? SLOTS : limit / HANDLE, found = 0;
     for (const uint8_t *s = c->table; s < c->end; s += SLOT) {
-        if (place_of(s) != ENABLED || !is_asked_for(c, s)) continue;
+        if (place_of(s) != ENABLED || (c->body[2] != 0 && !has_some(s, c->body + 3, c->body[2]))) continue;
         if (found < most) memcpy(c->reply + 5 + HANDLE * found, s + AT_HANDLE, HANDLE);
         found++;
     }
@@ -342,11 +318,10 @@ uint16_t AGENT(uint8_t *table, size_t size, struct cavernlull_tally *tally, size
     if (!count_well(table, table + size, &fresh) || !distinct(table, table + size)) return 103;
     if (!same_tally(tally, &fresh)) return 106;
     if (n < 4 || n - 4 != word(frame + 2)) return 104;
-    struct call c = {table, table + SLOT * start, table + size, reply, tally, frame + 4, n - 4, 0, kept_asked(frame),
-                     edition_asked(frame), 0};
+    struct call c = {table, table + SLOT * start, table + size, reply, tally, frame + 4, n - 4, 0, kept_asked(frame), 0};
     unsigned status = request_status(frame, n);
     if (status == SUCCESS) status = serve(&c, frame[0] & 31);
-    reply_head(reply, frame, status | c.told, status == SUCCESS ? c.given : 0);
+    reply_head(reply, frame[0] & 31, status | c.told, status == SUCCESS ? c.given : 0);
     return 0;
 }
 

@@ -11,10 +11,9 @@
  *            total (4 bytes), returns (2 bytes), change          change, as cavernlull_call_totalling left them
  *            (4 bytes)
  *   a        string tally (10 bytes)                             number, string tally, as cavernlull_tally left it
- *   w        numbers version, kind, room, count, kept, limit;    number, string out, as cavernlull_write_request left it
- *            strings handle, new handle, key, hashes, payload,
- *            out
- *   r        strings frame, key, fields (24 bytes)               number, strings key and fields, as cavernlull_read_reply
+ *   w        numbers kind, room, count, kept, limit; strings     number, string out, as cavernlull_write_request left it
+ *            handle, new handle, key, hashes, payload, out
+ *   r        strings frame, key, fields (22 bytes)               number, strings key and fields, as cavernlull_read_reply
  *                                                                left them
  *   l        string out (406 bytes)                              number, string out, as cavernlull_list left it
  *   u        none                                                number, string table, as cavernlull_turn left it
@@ -212,7 +211,7 @@ static void work_out(void) {
 }
 
 static void write_request(void) {
-    uint8_t version = (uint8_t)take_number(), kind = (uint8_t)take_number();
+    uint8_t kind = (uint8_t)take_number();
     uint16_t room = (uint16_t)take_number(), count = (uint16_t)take_number();
     uint8_t kept = (uint8_t)take_number();
     uint16_t limit = (uint16_t)take_number();
@@ -222,7 +221,7 @@ static void write_request(void) {
     struct lent hashes = take_string(&areas[3]);
     struct lent payload = take_string(&areas[4]);
     struct lent out = take_string(&areas[5]);
-    give_number(cavernlull_write_request(version, kind, handle.at, new_handle.at, key.at, room, count, kept, limit, hashes.at,
+    give_number(cavernlull_write_request(kind, handle.at, new_handle.at, key.at, room, count, kept, limit, hashes.at,
                                          hashes.length, payload.at, payload.length, out.at, out.length));
     give_string(out);
 }

@@ -2,9 +2,8 @@
  * two slots. It is set up, installed, listed, lent, refused a second time and under a handle in use, returned and removed. Then
  * it is set up with other starts, and in one slot after the other; it has a count of 1, which is used up and stays so; it is not
  * taken back with a count that is raised; its returns are totalled; it is refused without a hash, and used where a card holds it
- * so; it is on a damaged card, which is salvaged. All this is done in each edition, with hashes of 20 bytes and of 32. Then a
- * course of each edition stands on one card, and goes out whole in its own alone; and the table of an old card is turned. The
- * card's tally is kept beside its table, and lent with each call.
+ * so; it is on an old card, whose table is turned, and on a damaged one, which is salvaged. The card's tally is kept beside its
+ * table, and lent with each call.
  *
  * Each step is checked against what the header promises: the number, every byte of the reply buffer, every byte of the table,
  * the five numbers of the tally, the three of a total, what the reply reader reads in the reply, and the listing. The expected
@@ -25,11 +24,7 @@ static const uint8_t none[16];
 static const uint8_t course[10] = {1, 1, 1, 1, 1, 1, 1, 1, 1, 1}, other[10] = {2, 2, 2, 2, 2, 2, 2, 2, 2, 2};
 static const uint8_t borrower[10] = {3, 3, 3, 3, 3, 3, 3, 3, 3, 3};
 static const uint8_t payload[] = {'w', 'e', 'l', 'd', 'i', 'n', 'g'};
-static uint8_t key[CAVERNLULL_KEY_BYTES];
-
-/* The version of the requests, and the two hashes of its length that a right has. */
-static uint8_t version, hashes[2 * CAVERNLULL_LONG_HASH_BYTES];
-static size_t hash_bytes, hashes_length;
+static uint8_t key[CAVERNLULL_KEY_BYTES], hashes[2 * CAVERNLULL_HASH_BYTES];
 
 static uint8_t table[TABLE_BYTES], expected[TABLE_BYTES];
 static struct cavernlull_tally tally = {SLOTS, 0, 0, 0, 0};
@@ -55,19 +50,6 @@ static int filled(const uint8_t *bytes, size_t length, uint8_t byte) {
 
 static size_t length_of(const uint8_t *one) { return 4 + (size_t)(one[2] << 8 | one[3]); }
 
-/* The first byte of a frame of this kind. */
-static uint8_t first(uint8_t kind) { return (uint8_t)(version << 5 | kind); }
-
-/* From here on requests are of this edition, and so are rights. A hash of 32 bytes begins with one of 20. */
-static void set_edition(uint8_t edition) {
-    version = edition;
-    hash_bytes = edition == CAVERNLULL_SECOND_EDITION ? CAVERNLULL_LONG_HASH_BYTES : CAVERNLULL_HASH_BYTES;
-    hashes_length = 2 * hash_bytes;
-    memset(hashes, 0, sizeof hashes);
-    memset(hashes, 0xA1, hash_bytes);
-    memset(hashes + hash_bytes, 0xA2, hash_bytes);
-}
-
 /* ---- a count: one that is kept, or none */
 struct count {
     uint16_t number;
@@ -83,16 +65,15 @@ static void put_slot(int index, enum place place, const uint8_t *handle, struct 
     uint8_t *slot = expected + index * CAVERNLULL_SLOT_BYTES;
     int right = place == ENABLED || place == DISABLED;
     memset(slot, 0, CAVERNLULL_SLOT_BYTES);
-    slot[0] = (uint8_t)(place << 6 | (count.is_kept ? CAVERNLULL_KEPT_IN_SLOT : 0));
+    slot[0] = (uint8_t)(place << 6 | (right ? 2 << 2 : 0) | (count.is_kept ? CAVERNLULL_KEPT_IN_SLOT : 0));
     memcpy(slot + 1, handle, sizeof course);
     slot[27] = (uint8_t)(count.number >> 8);
     slot[28] = (uint8_t)count.number;
     slot[29] = (uint8_t)(length >> 8);
     slot[30] = (uint8_t)length;
     if (!right) return;
-    slot[0] |= (uint8_t)(2 << 2 | (version == CAVERNLULL_SECOND_EDITION ? CAVERNLULL_LONG_IN_SLOT : 0));
     memcpy(slot + 11, key, sizeof key);
-    memcpy(slot + 31, hashes, hashes_length);
+    memcpy(slot + 31, hashes, sizeof hashes);
     memcpy(slot + PAYLOAD_AT, payload, sizeof payload);
 }
 
@@ -158,22 +139,22 @@ static void no_tally(uint16_t number, size_t table_length) {
 
 /* ---- requests: each writes a frame */
 static void write_plain(uint8_t kind, const uint8_t *handle, const uint8_t *new_handle, uint16_t room) {
-    CHECK(cavernlull_write_request(version, kind, handle, new_handle, none, room, 0, 0, 0, none, 0, none, 0, frame,
-                                   sizeof frame) == CAVERNLULL_DONE);
+    CHECK(cavernlull_write_request(kind, handle, new_handle, none, room, 0, 0, 0, none, 0, none, 0, frame, sizeof frame) ==
+          CAVERNLULL_DONE);
 }
 
 static void write_installation(const uint8_t *handle, struct count count) {
-    CHECK(cavernlull_write_request(version, CAVERNLULL_RIGHTS_INSTALLATION, handle, none, key, 0, count.number, count.is_kept, 0,
-                                   hashes, hashes_length, payload, sizeof payload, frame, sizeof frame) == CAVERNLULL_DONE);
+    CHECK(cavernlull_write_request(CAVERNLULL_RIGHTS_INSTALLATION, handle, none, key, 0, count.number, count.is_kept, 0, hashes,
+                                   sizeof hashes, payload, sizeof payload, frame, sizeof frame) == CAVERNLULL_DONE);
 }
 
 static void write_return(const uint8_t *handle, struct count count) {
-    CHECK(cavernlull_write_request(version, CAVERNLULL_RIGHTS_ENABLEMENT, handle, none, none, 0, count.number, count.is_kept, 0,
-                                   none, 0, none, 0, frame, sizeof frame) == CAVERNLULL_DONE);
+    CHECK(cavernlull_write_request(CAVERNLULL_RIGHTS_ENABLEMENT, handle, none, none, 0, count.number, count.is_kept, 0, none, 0,
+                                   none, 0, frame, sizeof frame) == CAVERNLULL_DONE);
 }
 
-static void write_list_by(uint16_t limit, size_t length) {
-    CHECK(cavernlull_write_request(version, CAVERNLULL_HANDLE_LIST_QUERY, none, none, none, 0, 0, 0, limit, hashes, length, none,
+static void write_list_by(uint16_t limit, size_t hashes_length) {
+    CHECK(cavernlull_write_request(CAVERNLULL_HANDLE_LIST_QUERY, none, none, none, 0, 0, 0, limit, hashes, hashes_length, none,
                                    0, frame, sizeof frame) == CAVERNLULL_DONE);
 }
 
@@ -196,9 +177,7 @@ static void call_telling(uint8_t kept_bit, uint8_t status, const uint8_t *body, 
     CHECK(fields[CAVERNLULL_REPLY_KIND] == (frame[0] & 31));
     CHECK(fields[CAVERNLULL_REPLY_STATUS] == status);
     CHECK(fields[CAVERNLULL_REPLY_KEPT] == (kept_bit != 0));
-    CHECK(fields[CAVERNLULL_REPLY_VERSION] == frame[0] >> 5);
-    int kind = reply[0] & 31;
-    int has_key = status == CAVERNLULL_SUCCESS && (kind == CAVERNLULL_RIGHTS_RETRIEVAL || kind == CAVERNLULL_REK_QUERY);
+    int has_key = status == CAVERNLULL_SUCCESS && (reply[0] == 0x23 || reply[0] == 0x24);
     CHECK(memcmp(sent_key, has_key ? key : none, sizeof sent_key) == 0);
 }
 
@@ -223,9 +202,8 @@ static void listed(const char *lines) { listed_after("slot place hashes count le
 /* ---- the course */
 static void installs(void) {
     write_plain(CAVERNLULL_INSTALLATION_SETUP, course, none, 300);
-    static const uint8_t written[] = {0x80, 0, 12, 1, 1, 1, 1, 1, 1, 1, 1, 1, 1, 300 >> 8, 300 & 255};
-    CHECK(frame[0] == first(CAVERNLULL_INSTALLATION_SETUP));
-    CHECK(memcmp(frame + 1, written, sizeof written) == 0);
+    static const uint8_t written[] = {0x21, 0x80, 0, 12, 1, 1, 1, 1, 1, 1, 1, 1, 1, 1, 300 >> 8, 300 & 255};
+    CHECK(memcmp(frame, written, sizeof written) == 0);
     frame[1] = 0; /* the front end: the MAC did not hold */
     refused(CAVERNLULL_FIELD_INTEGRITY_VERIFICATION_FAILED);
     tallied(2, 0, 0, 0, 0);
@@ -303,25 +281,19 @@ static void takes_back(void) {
     CHECK(memcmp(reply + fields[CAVERNLULL_REPLY_PAYLOAD_AT], payload, sizeof payload) == 0);
 }
 
-/* The request of a retrieval is written, and the table is expected as it is after it: all of a right with this count goes out. */
-static void gives_whole(struct count count) {
+/* Lends the course, which is under `borrower`, out whole, under `course`. It goes out with this count. */
+static void retrieves(struct count count) {
     uint8_t body[16 + 2 + 1 + sizeof hashes + sizeof payload];
     memcpy(body, key, sizeof key);
     memcpy(body + 16, (uint8_t[]){(uint8_t)(count.number >> 8), (uint8_t)count.number, 2 << 4}, 3);
-    memcpy(body + 19, hashes, hashes_length);
-    memcpy(body + 19 + hashes_length, payload, sizeof payload);
-    call_telling(count.is_kept ? CAVERNLULL_KEPT_IN_REPLY : 0, CAVERNLULL_SUCCESS, body, 19 + hashes_length + sizeof payload);
-    CHECK(fields[CAVERNLULL_REPLY_COUNT] == count.number && fields[CAVERNLULL_REPLY_HASHES] == 2);
-    CHECK(memcmp(reply + fields[CAVERNLULL_REPLY_HASHES_AT], hashes, hashes_length) == 0);
-    CHECK(fields[CAVERNLULL_REPLY_PAYLOAD_LENGTH] == sizeof payload);
-    CHECK(memcmp(reply + fields[CAVERNLULL_REPLY_PAYLOAD_AT], payload, sizeof payload) == 0);
-}
-
-/* Lends the course, which is under `borrower`, out whole, under `course`. It goes out with this count. */
-static void retrieves(struct count count) {
+    memcpy(body + 19, hashes, sizeof hashes);
+    memcpy(body + 19 + sizeof hashes, payload, sizeof payload);
     write_plain(CAVERNLULL_RIGHTS_RETRIEVAL, borrower, course, 0);
     put_right(DISABLED, course, count);
-    gives_whole(count);
+    call_telling(count.is_kept ? CAVERNLULL_KEPT_IN_REPLY : 0, CAVERNLULL_SUCCESS, body, sizeof body);
+    CHECK(fields[CAVERNLULL_REPLY_COUNT] == count.number && fields[CAVERNLULL_REPLY_HASHES] == 2);
+    CHECK(memcmp(reply + fields[CAVERNLULL_REPLY_HASHES_AT], hashes, sizeof hashes) == 0);
+    CHECK(memcmp(reply + fields[CAVERNLULL_REPLY_PAYLOAD_AT], payload, sizeof payload) == 0);
 }
 
 static void removes(void) {
@@ -488,7 +460,7 @@ static void raise_totalled(struct count first, struct count then) {
     write_return(borrower, then);
     CHECK(call_totalling(-7, 3, sizeof table, length_of(frame), sizeof reply) == CAVERNLULL_DONE);
     CHECK(summed(-7, 3, 0));
-    CHECK(memcmp(reply, (const uint8_t[]){frame[0], CAVERNLULL_COUNT_RAISED, 0, 0}, 4) == 0);
+    CHECK(memcmp(reply, (const uint8_t[]){0x25, CAVERNLULL_COUNT_RAISED, 0, 0}, 4) == 0);
     CHECK(filled(reply + 4, sizeof reply - 4, FILLER));
     CHECK(memcmp(table, expected, sizeof table) == 0);
     CHECK(same_tally(tally, expected_tally()));
@@ -579,15 +551,14 @@ static void totals(void) {
 
 /* ---- rights without a hash: none is installed (PROFILE 5.2), and those that a card holds are used (PROFILE 2.9) */
 /* The number that the writer gives for an installation with this many bytes of hashes, into this much room. */
-static uint16_t write_hashes(size_t length, size_t room) {
-    static const uint8_t many[256];
-    return cavernlull_write_request(version, CAVERNLULL_RIGHTS_INSTALLATION, course, none, key, 0, 0, 0, 0,
-                                    length > hashes_length ? many : hashes, length, payload, sizeof payload, frame, room);
+static uint16_t write_hashes(size_t hashes_length, size_t room) {
+    return cavernlull_write_request(CAVERNLULL_RIGHTS_INSTALLATION, course, none, key, 0, 0, 0, 0, hashes, hashes_length, payload,
+                                    sizeof payload, frame, room);
 }
 
 /* An installation without a hash, by hand: the writer does not write it. */
 static void write_without_hash(void) {
-    const uint8_t head[] = {first(CAVERNLULL_RIGHTS_INSTALLATION), 0x80, 0, 29 + sizeof payload};
+    static const uint8_t head[] = {0x22, 0x80, 0, 29 + sizeof payload};
     memcpy(frame, head, sizeof head);
     memcpy(frame + 4, course, sizeof course);
     memcpy(frame + 14, key, sizeof key);
@@ -610,10 +581,10 @@ static void installs_none_without_a_hash(void) {
     tallied(1, 1, 0, 0, 0);
     frame[1] = 0; /* the front end: the MAC did not hold */
     refused(CAVERNLULL_FIELD_INTEGRITY_VERIFICATION_FAILED);
-    CHECK(write_hashes(hash_bytes, sizeof frame) == CAVERNLULL_DONE);
+    CHECK(write_hashes(CAVERNLULL_HASH_BYTES, sizeof frame) == CAVERNLULL_DONE);
     put_right(ENABLED, course, no_count);
-    expected[0] -= 1 << 2; /* it has one hash, not two */
-    memset(expected + 31 + hash_bytes, 0, hash_bytes);
+    expected[0] = ENABLED << 6 | 1 << 2;
+    memset(expected + 31 + CAVERNLULL_HASH_BYTES, 0, CAVERNLULL_HASH_BYTES); /* it has one hash, not two */
     done();
     tallied(1, 0, 1, 0, 7);
 }
@@ -622,13 +593,13 @@ static void installs_none_without_a_hash(void) {
 static void put_old_right(enum place place, const uint8_t *handle) {
     put_right(place, handle, no_count);
     expected[0] = (uint8_t)(place << 6);
-    memset(expected + 31, 0, hashes_length);
+    memset(expected + 31, 0, sizeof hashes);
 }
 
 /* It is on the list of all handles, and on none by hash. */
 static void lists_old_right(const uint8_t *handle) {
     lists(handle);
-    write_list_by(0, hashes_length);
+    write_list_by(0, sizeof hashes);
     call(CAVERNLULL_SUCCESS, none, 1);
     CHECK(fields[CAVERNLULL_REPLY_MORE] == 0 && fields[CAVERNLULL_REPLY_HANDLES] == 0);
 }
@@ -667,113 +638,6 @@ static void uses_old_rights(void) {
     tallied(2, 0, 0, 0, 0);
 }
 
-/* ---- a course of each edition on one card (PROFILE 1.4) */
-static uint8_t other_than(uint8_t edition) {
-    return edition == CAVERNLULL_FIRST_EDITION ? CAVERNLULL_SECOND_EDITION : CAVERNLULL_FIRST_EDITION;
-}
-
-/* A right of this edition for use or lent, in a slot; requests are of the edition that they were of. */
-static void put_of(uint8_t edition, int index, enum place place, const uint8_t *handle) {
-    uint8_t before = version;
-    set_edition(edition);
-    put_slot(index, place, handle, kept(9), sizeof payload);
-    set_edition(before);
-}
-
-/* The course in slot 0 has this edition, and the other one in slot 1 the other. */
-static void loads_both(uint8_t edition) {
-    put_of(edition, 0, ENABLED, course);
-    put_of(other_than(edition), 1, ENABLED, other);
-    memcpy(table, expected, sizeof table);
-    tally = expected_tally();
-    listed("0 enabled 2 9 7\n1 enabled 2 9 7\n");
-}
-
-/* The list by the hashes of the version has this handle alone. */
-static void finds_by_hash(const uint8_t *handle) {
-    uint8_t body[1 + CAVERNLULL_HANDLE_BYTES] = {0};
-    memcpy(body + 1, handle, CAVERNLULL_HANDLE_BYTES);
-    write_list_by(0, hashes_length);
-    call(CAVERNLULL_SUCCESS, body, sizeof body);
-    write_list_by(0, hash_bytes);
-    call(CAVERNLULL_SUCCESS, body, sizeof body);
-}
-
-/* In the wrong edition the course does not go out whole, whatever the new handle; 4 and 6 are tested before it. */
-static void edition_is_needed(uint8_t edition) {
-    set_edition(other_than(edition));
-    write_plain(CAVERNLULL_RIGHTS_RETRIEVAL, course, borrower, 0);
-    refused(CAVERNLULL_EDITION_NEEDED);
-    write_plain(CAVERNLULL_RIGHTS_RETRIEVAL, course, other, 0);
-    refused(CAVERNLULL_EDITION_NEEDED);
-    write_plain(CAVERNLULL_RIGHTS_RETRIEVAL, course, course, 0);
-    refused(CAVERNLULL_EDITION_NEEDED);
-    write_plain(CAVERNLULL_RIGHTS_RETRIEVAL, borrower, course, 0);
-    refused(CAVERNLULL_HANDLE_NOT_FOUND);
-    write_plain(CAVERNLULL_REK_QUERY, course, borrower, 0); /* its key goes out in either edition */
-    put_of(edition, 0, DISABLED, borrower);
-    call(CAVERNLULL_SUCCESS, key, sizeof key);
-    write_plain(CAVERNLULL_RIGHTS_RETRIEVAL, borrower, course, 0);
-    refused(CAVERNLULL_UNEXPECTED_REQUEST);
-    write_return(borrower, kept(9)); /* and it comes back in either */
-    put_of(edition, 0, ENABLED, borrower);
-    done();
-}
-
-/* The course, under `borrower`, goes out whole in its own edition, and is removed in the other. */
-static void goes_out(uint8_t edition) {
-    set_edition(edition);
-    write_plain(CAVERNLULL_RIGHTS_RETRIEVAL, borrower, other, 0);
-    refused(CAVERNLULL_DUPLICATE_HANDLE);
-    retrieves(kept(9));
-    set_edition(other_than(edition));
-    write_plain(CAVERNLULL_RIGHTS_REMOVAL, course, none, 0);
-    memset(expected, 0, CAVERNLULL_SLOT_BYTES);
-    done();
-}
-
-/* A right without a hash goes out in this edition as in the other. */
-static void old_right_goes_out(uint8_t edition) {
-    set_edition(edition);
-    put_old_right(ENABLED, borrower);
-    memcpy(table, expected, sizeof table);
-    tally = expected_tally();
-    retrieves_old_right();
-}
-
-/* A setup with a version that there is not is refused in version 1, whatever the version. */
-static void no_such_version(void) {
-    write_plain(CAVERNLULL_INSTALLATION_SETUP, course, none, 300);
-    for (int other_version = 0; other_version < 8; other_version++) {
-        if (other_version == CAVERNLULL_FIRST_EDITION || other_version == CAVERNLULL_SECOND_EDITION) continue;
-        frame[0] = (uint8_t)(other_version << 5 | CAVERNLULL_INSTALLATION_SETUP);
-        memset(reply, FILLER, sizeof reply);
-        CHECK(cavernlull_call(table, sizeof table, &tally, start, frame, length_of(frame), reply, sizeof reply) ==
-              CAVERNLULL_DONE);
-        CHECK(memcmp(reply, (const uint8_t[]){0x21, CAVERNLULL_PARAMETER_FAILED, 0, 0}, 4) == 0);
-        CHECK(memcmp(table, expected, sizeof table) == 0);
-    }
-}
-
-/* Afterwards the card is empty. */
-static void both_editions(void) {
-    for (uint8_t edition = CAVERNLULL_FIRST_EDITION; edition <= CAVERNLULL_SECOND_EDITION; edition++) {
-        loads_both(edition);
-        set_edition(edition);
-        finds_by_hash(course);
-        set_edition(other_than(edition));
-        finds_by_hash(other);
-        edition_is_needed(edition);
-        goes_out(edition);
-        tallied(1, 0, 1, 0, 7);
-        old_right_goes_out(edition);
-    }
-    memset(table, 0, sizeof table);
-    memset(expected, 0, sizeof expected);
-    tally = expected_tally();
-    no_such_version();
-}
-
 /* ---- an old table, in which no count has a bit */
 /* The turning gives this number, and leaves the table as it was. */
 static void turning_leaves(uint16_t number, size_t table_length) {
@@ -801,11 +665,6 @@ static void turns(void) {
     CHECK(cavernlull_tally(table, sizeof table, &tally) == CAVERNLULL_DONE);
     tallied(0, 1, 1, 0, 7);
     lists(course);
-    set_edition(CAVERNLULL_SECOND_EDITION);
-    put_right(ENABLED, course, no_count);
-    memcpy(table, expected, sizeof table);
-    turning_leaves(CAVERNLULL_TABLE_NOT_WELL_FORMED, TABLE_BYTES); /* no old table has long hashes */
-    set_edition(CAVERNLULL_FIRST_EDITION);
     put_right(ENABLED, course, no_count);
     memcpy(table, expected, sizeof table);
     turning_leaves(CAVERNLULL_DONE, TABLE_BYTES); /* there is no count */
@@ -1025,25 +884,7 @@ static void start_refusals(void) {
 
 /* A request of a kind with a handle, a count, its bit and a room, and with nothing else, into a buffer of 13 bytes. */
 static uint16_t write_short(uint8_t kind, uint16_t count, uint8_t is_kept, uint16_t room) {
-    return cavernlull_write_request(version, kind, course, none, none, room, count, is_kept, 0, none, 0, none, 0, frame, 13);
-}
-
-/* A version that there is not, and hashes that are not of the version's length or too many. */
-static void edition_refusals(void) {
-    static const uint8_t versions[] = {0, 3, 4, 5, 8, 32, 33, 64, 128, 254, 255};
-    for (size_t i = 0; i < sizeof versions; i++) {
-        version = versions[i];
-        CHECK(write_short(CAVERNLULL_RIGHTS_REMOVAL, 0, 0, 0) == CAVERNLULL_WRITER_FIELDS);
-        CHECK(write_hashes(CAVERNLULL_MOST_HASH_BYTES, sizeof frame) == CAVERNLULL_WRITER_FIELDS);
-    }
-    for (uint8_t edition = CAVERNLULL_FIRST_EDITION; edition <= CAVERNLULL_SECOND_EDITION; edition++) {
-        set_edition(edition);
-        for (size_t length = 0; length <= 256; length++) {
-            int taken = length != 0 && length <= CAVERNLULL_MOST_HASH_BYTES && length % hash_bytes == 0;
-            CHECK(write_hashes(length, 13) == (taken ? CAVERNLULL_WRITER_BUFFER_SHORT : CAVERNLULL_WRITER_FIELDS));
-        }
-    }
-    set_edition(CAVERNLULL_FIRST_EDITION);
+    return cavernlull_write_request(kind, course, none, none, room, count, is_kept, 0, none, 0, none, 0, frame, 13);
 }
 
 static void writer_refusals(void) {
@@ -1058,7 +899,6 @@ static void writer_refusals(void) {
     CHECK(write_short(CAVERNLULL_RIGHTS_ENABLEMENT, 256, 1, 0) == CAVERNLULL_WRITER_BUFFER_SHORT);
     CHECK(write_short(CAVERNLULL_RIGHTS_ENABLEMENT, 256, 0, 0) == CAVERNLULL_WRITER_FIELDS);
     CHECK(write_short(CAVERNLULL_RIGHTS_ENABLEMENT, 0, 2, 0) == CAVERNLULL_WRITER_FIELDS);
-    edition_refusals();
     CHECK(filled(frame, sizeof frame, FILLER));
 }
 
@@ -1066,16 +906,11 @@ static void reader_refusals(void) {
     uint8_t same[CAVERNLULL_KEY_BYTES];
     memset(same, FILLER, sizeof same);
     memset(fields, FILLER, sizeof fields);
-    for (int head = 0; head < 256; head++) { /* 8 is no status, and no refusal has the bit of a count */
-        CHECK(cavernlull_read_reply((const uint8_t[]){(uint8_t)head, 8, 0, 0}, 4, same, fields) == CAVERNLULL_NO_REPLY);
-        CHECK(cavernlull_read_reply((const uint8_t[]){(uint8_t)head, 0x84, 0, 0}, 4, same, fields) == CAVERNLULL_NO_REPLY);
-        if (head >> 5 == CAVERNLULL_FIRST_EDITION || head >> 5 == CAVERNLULL_SECOND_EDITION) continue;
-        CHECK(cavernlull_read_reply((const uint8_t[]){(uint8_t)head, 4, 0, 0}, 4, same, fields) == CAVERNLULL_NO_REPLY);
-        CHECK(cavernlull_read_reply((const uint8_t[]){(uint8_t)head, 0, 0, 0}, 4, same, fields) == CAVERNLULL_NO_REPLY);
+    for (uint8_t kind = 0; kind < 32; kind++) { /* 8 is no status, and no refusal has the bit of a count */
+        CHECK(cavernlull_read_reply((const uint8_t[]){0x20 | kind, 8, 0, 0}, 4, same, fields) == CAVERNLULL_NO_REPLY);
+        CHECK(cavernlull_read_reply((const uint8_t[]){0x20 | kind, 0x84, 0, 0}, 4, same, fields) == CAVERNLULL_NO_REPLY);
     }
-    CHECK(cavernlull_read_reply((const uint8_t[]){0x23, 11, 0, 0}, 4, same, fields) == CAVERNLULL_NO_REPLY);
-    CHECK(cavernlull_read_reply((const uint8_t[]){0x23, 10, 0, 1, 0}, 5, same, fields) == CAVERNLULL_NO_REPLY);
-    CHECK(cavernlull_read_reply((const uint8_t[]){0x43, 0x8A, 0, 0}, 4, same, fields) == CAVERNLULL_NO_REPLY);
+    CHECK(cavernlull_read_reply((const uint8_t[]){0x21, 10, 0, 0}, 4, same, fields) == CAVERNLULL_NO_REPLY);
     CHECK(cavernlull_read_reply((const uint8_t[]){0x25, 9, 0, 1, 0}, 5, same, fields) == CAVERNLULL_NO_REPLY);
     CHECK(cavernlull_read_reply((const uint8_t[]){0x25, 0x89, 0, 0}, 4, same, fields) == CAVERNLULL_NO_REPLY);
     CHECK(cavernlull_read_reply((const uint8_t[]){0x25, 0x80, 0, 0}, 4, same, fields) == CAVERNLULL_NO_REPLY);
@@ -1083,42 +918,21 @@ static void reader_refusals(void) {
     CHECK(filled(same, sizeof same, FILLER) && fields[0] == 0xA5A5 && fields[CAVERNLULL_REPLY_NUMBERS - 1] == 0xA5A5);
 }
 
-/* Each status but 0 is read in a reply of any kind, those that there are not as well, and of either edition. */
+/* Each status but 0 is read in a reply of any kind, those that there are not as well. */
 static void reads_statuses(void) {
-    static const uint8_t statuses[] = {1, 2, 3, 4, 5, 6, 7, 9, 10};
+    static const uint8_t statuses[] = {1, 2, 3, 4, 5, 6, 7, 9};
     uint8_t read[CAVERNLULL_KEY_BYTES];
-    for (uint8_t head = CAVERNLULL_FIRST_EDITION << 5; head < (CAVERNLULL_SECOND_EDITION + 1) << 5; head++)
+    for (uint8_t kind = 0; kind < 32; kind++)
         for (size_t i = 0; i < sizeof statuses; i++) {
-            CHECK(cavernlull_read_reply((const uint8_t[]){head, statuses[i], 0, 0}, 4, read, fields) == CAVERNLULL_DONE);
-            CHECK(fields[CAVERNLULL_REPLY_KIND] == (head & 31) && fields[CAVERNLULL_REPLY_STATUS] == statuses[i]);
-            CHECK(fields[CAVERNLULL_REPLY_VERSION] == head >> 5);
+            CHECK(cavernlull_read_reply((const uint8_t[]){0x20 | kind, statuses[i], 0, 0}, 4, read, fields) == CAVERNLULL_DONE);
+            CHECK(fields[CAVERNLULL_REPLY_KIND] == kind && fields[CAVERNLULL_REPLY_STATUS] == statuses[i]);
         }
 }
 
-/* In a reply to kind 3 the hashes have the length of its version: it is taken with no more than can be, and with a byte of payload
- * after them at least. */
-static void reads_hashes(uint8_t edition) {
-    uint8_t read[CAVERNLULL_KEY_BYTES], right[4 + 19 + 256] = {0};
-    set_edition(edition);
-    size_t most = CAVERNLULL_MOST_HASH_BYTES / hash_bytes;
-    for (size_t number = 0; number < 16; number++) {
-        right[0] = first(CAVERNLULL_RIGHTS_RETRIEVAL);
-        right[22] = (uint8_t)(number << 4);
-        for (uint8_t bytes = 19; bytes < 19 + 200; bytes++) {
-            right[3] = bytes;
-            int taken = number <= most && bytes > 19 + number * hash_bytes;
-            CHECK(cavernlull_read_reply(right, 4 + bytes, read, fields) == (taken ? CAVERNLULL_DONE : CAVERNLULL_NO_REPLY));
-            if (!taken) continue;
-            CHECK(fields[CAVERNLULL_REPLY_HASHES] == number && fields[CAVERNLULL_REPLY_HASHES_AT] == 4 + 19);
-            CHECK(fields[CAVERNLULL_REPLY_PAYLOAD_AT] == 4 + 19 + number * hash_bytes);
-            CHECK(fields[CAVERNLULL_REPLY_PAYLOAD_LENGTH] == bytes - 19 - number * hash_bytes);
-        }
-    }
-}
-
-/* All that is done with a course, in one edition; before and afterwards the card is empty. */
-static void one_edition(uint8_t edition) {
-    set_edition(edition);
+int main(void) {
+    memset(key, KEY, sizeof key);
+    memset(hashes, 0xA1, CAVERNLULL_HASH_BYTES);
+    memset(hashes + CAVERNLULL_HASH_BYTES, 0xA2, CAVERNLULL_HASH_BYTES);
     installs();
     lists(course);
     lends();
@@ -1134,25 +948,15 @@ static void one_edition(uint8_t edition) {
     totals();
     installs_none_without_a_hash();
     uses_old_rights();
-    salvages();
-}
-
-int main(void) {
-    memset(key, KEY, sizeof key);
-    one_edition(CAVERNLULL_FIRST_EDITION);
-    one_edition(CAVERNLULL_SECOND_EDITION);
-    both_editions();
-    set_edition(CAVERNLULL_FIRST_EDITION);
     turns();
     tally_refusals();
     tallies_differ();
+    salvages();
     call_refusals();
     start_refusals();
     writer_refusals();
     reader_refusals();
     reads_statuses();
-    reads_hashes(CAVERNLULL_FIRST_EDITION);
-    reads_hashes(CAVERNLULL_SECOND_EDITION);
     printf("ordinary: %d checks hold\n", checks);
     return 0;
 }

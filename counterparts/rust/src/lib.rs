@@ -42,7 +42,6 @@ pub fn call(
     let Some((head, body)) = requests::split(frame) else {
         return 104;
     };
-    let version = if head[0] >> 5 == 2 { 2 } else { 1 };
     let kind = head[0] & 31;
     let answer = requests::test(head, body)
         .and_then(|()| rights::serve(slots, tally, start, head, body, reply));
@@ -51,7 +50,7 @@ pub fn call(
         Err(status) => (status as u8, 0),
     };
     let [high, low] = (length as u16).to_be_bytes();
-    reply[..4].copy_from_slice(&[version << 5 | kind, status, high, low]);
+    reply[..4].copy_from_slice(&[1 << 5 | kind, status, high, low]);
     0
 }
 

@@ -1,6 +1,6 @@
 //! Request frames, and the tests that need no table.
 
-use crate::slots::{hash_size, most_hashes, LONG, PAYLOAD};
+use crate::slots::{HASH, HASHES, PAYLOAD};
 
 /// Statuses other than success.
 #[derive(Clone, Copy, Debug, PartialEq, Eq)]
@@ -13,7 +13,6 @@ pub enum Status {
     Unexpected = 6,
     NoSpace = 7,
     Raised = 9,
-    Edition = 10,
 }
 
 /// The head and the body of a frame, if the bytes are one.
@@ -27,15 +26,6 @@ pub fn split(frame: &[u8]) -> Option<(&[u8; 4], &[u8])> {
 const VERDICT: u8 = 0x80;
 pub const KEPT: u8 = 0x40;
 
-/// The edition of a request, as a slot has it, if there is its version.
-pub fn edition(head: &[u8; 4]) -> Option<u8> {
-    match head[0] >> 5 {
-        1 => Some(0),
-        2 => Some(LONG),
-        _ => None,
-    }
-}
-
 fn zero_bits(kind: u8) -> u8 {
     match kind {
         2 | 5 => !(VERDICT | KEPT),
@@ -46,8 +36,7 @@ fn zero_bits(kind: u8) -> u8 {
 /// The tests for all kinds, then the field tests of kinds 2, 5 and 8.
 pub fn test(head: &[u8; 4], body: &[u8]) -> Result<(), Status> {
     let kind = head[0] & 31;
-    let edition = edition(head).ok_or(Status::Parameter)?;
-    if head[1] & zero_bits(kind) != 0 {
+    if head[0] >> 5 != 1 || head[1] & zero_bits(kind) != 0 {
         return Err(Status::Parameter);
     }
     let long_enough = match kind {
@@ -64,7 +53,7 @@ pub fn test(head: &[u8; 4], body: &[u8]) -> Result<(), Status> {
     if kind <= 7 && head[1] & VERDICT == 0 {
         return Err(Status::Integrity);
     }
-    if fields_hold(kind, head[1] & KEPT != 0, edition, body) {
+    if fields_hold(kind, head[1] & KEPT != 0, body) {
         Ok(())
     } else {
         Err(Status::Parameter)
@@ -73,14 +62,13 @@ pub fn test(head: &[u8; 4], body: &[u8]) -> Result<(), Status> {
 
 /// The field tests. A count that is not kept must be 0, and an installation has
 /// a hash.
-fn fields_hold(kind: u8, kept: bool, edition: u8, body: &[u8]) -> bool {
-    let (size, most) = (hash_size(edition), most_hashes(edition));
+fn fields_hold(kind: u8, kept: bool, body: &[u8]) -> bool {
     match kind {
         2 => {
             let hashes = usize::from(body[28] >> 4);
-            let used = 29 + size * hashes;
+            let used = 29 + HASH * hashes;
             (kept || body[26..28] == [0, 0])
-                && (1..=most).contains(&hashes)
+                && (1..=HASHES).contains(&hashes)
                 && body[28] & 15 == 0
                 && body.len() > used
                 && body.len() - used <= PAYLOAD
@@ -88,7 +76,7 @@ fn fields_hold(kind: u8, kept: bool, edition: u8, body: &[u8]) -> bool {
         5 => kept || body[10..12] == [0, 0],
         8 => {
             let hashes = usize::from(body[2]);
-            hashes <= most && body.len() == 3 + size * hashes
+            hashes <= HASHES && body.len() == 3 + HASH * hashes
         }
         _ => true,
     }

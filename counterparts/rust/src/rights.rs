@@ -1,9 +1,10 @@
 //! What each kind of request does.
 
 use crate::requests::{self, Status};
-use crate::slots::{count, edition, find, handle, hash_size, hashes, length, place};
-use crate::slots::{Handle, Slot, HANDLE, HASH, KEPT, LONG_HASH, PAYLOAD, SLOT, SLOTS};
-use crate::slots::{AT_COUNT, AT_HASHES, AT_KEY, AT_LENGTH, AT_PAYLOAD};
+use crate::slots::{count, find, handle, hashes, length, place, Handle, Slot, KEPT};
+use crate::slots::{
+    AT_COUNT, AT_HASHES, AT_KEY, AT_LENGTH, AT_PAYLOAD, HANDLE, HASH, PAYLOAD, SLOT, SLOTS,
+};
 use crate::slots::{DISABLED, EMPTY, ENABLED, RESERVED};
 use crate::tally::Tally;
 use crate::{Answer, Given, REPLY};
@@ -22,17 +23,15 @@ pub fn serve(
     reply: &mut Reply,
 ) -> Answer {
     let kind = head[0] & 31;
-    let asked = requests::edition(head).ok_or(Status::Parameter)?;
     match kind {
         1 => return set_up(slots, tally, start, body),
-        8 => return list(slots, asked, body, reply),
+        8 => return list(slots, body, reply),
         _ => {}
     }
     let at = find(slots, first(body)).ok_or(Status::NotFound)?;
     match kind {
-        2 => install(&mut slots[at], tally, kept_asked(head), asked, body),
-        3 => lend(slots, tally, at, second(body), Some(asked), reply),
-        4 => lend(slots, tally, at, second(body), None, reply),
+        2 => install(&mut slots[at], tally, kept_asked(head), body),
+        3 | 4 => lend(slots, tally, at, second(body), kind == 3, reply),
         5 => enable(&mut slots[at], tally, kept_asked(head), body),
         6 | 7 => clear(&mut slots[at], tally, kind == 7),
         _ => inform(&slots[at], reply),
@@ -79,16 +78,16 @@ fn set_up(slots: &mut [Slot], tally: &mut Tally, start: usize, body: &[u8]) -> A
     Ok(Given::body(0))
 }
 
-fn install(s: &mut Slot, tally: &mut Tally, kept: u8, edition: u8, body: &[u8]) -> Answer {
+fn install(s: &mut Slot, tally: &mut Tally, kept: u8, body: &[u8]) -> Answer {
     let (fields, content) = body.split_at(29);
-    let (hashes, payload) = content.split_at(hash_size(edition) * usize::from(fields[28] >> 4));
+    let (hashes, payload) = content.split_at(HASH * usize::from(fields[28] >> 4));
     if place(s) != RESERVED {
         return Err(Status::Unexpected);
     }
     if payload.len() > length(s) {
         return Err(Status::NoSpace);
     }
-    s[0] = ENABLED << 6 | fields[28] >> 2 | kept | edition;
+    s[0] = ENABLED << 6 | fields[28] >> 2 | kept;
     s[AT_KEY..AT_LENGTH].copy_from_slice(&fields[HANDLE..28]);
     s[AT_LENGTH..AT_HASHES].copy_from_slice(&(payload.len() as u16).to_be_bytes());
     s[AT_HASHES..][..hashes.len()].copy_from_slice(hashes);
@@ -98,28 +97,25 @@ fn install(s: &mut Slot, tally: &mut Tally, kept: u8, edition: u8, body: &[u8]) 
     Ok(Given::body(0))
 }
 
-/// Lends a right: whole, in this edition, or its key alone.
 fn lend(
     slots: &mut [Slot],
     tally: &mut Tally,
     at: usize,
     new: &Handle,
-    whole: Option<u8>,
+    whole: bool,
     reply: &mut Reply,
 ) -> Answer {
     if place(&slots[at]) != ENABLED {
         return Err(Status::Unexpected);
     }
-    if whole.is_some_and(|asked| hashes(&slots[at]) > 0 && edition(&slots[at]) != asked) {
-        return Err(Status::Edition);
-    }
     if find(slots, new).is_some() {
         return Err(Status::Duplicate);
     }
     let s = &mut slots[at];
-    let given = match whole {
-        Some(_) => put_right(s, reply),
-        None => put_key(s, reply),
+    let given = if whole {
+        put_right(s, reply)
+    } else {
+        put_key(s, reply)
     };
     s[0] |= DISABLED << 6;
     s[1..AT_KEY].copy_from_slice(new);
@@ -133,7 +129,7 @@ fn put_key(s: &Slot, reply: &mut Reply) -> Given {
 }
 
 fn put_right(s: &Slot, reply: &mut Reply) -> Given {
-    let (used, payload) = (hash_size(edition(s)) * hashes(s), length(s));
+    let (used, payload) = (HASH * hashes(s), length(s));
     reply[4..22].copy_from_slice(&s[AT_KEY..AT_LENGTH]);
     reply[22] = (hashes(s) as u8) << 4;
     reply[23..][..used].copy_from_slice(&s[AT_HASHES..][..used]);
@@ -187,20 +183,12 @@ fn inform(s: &Slot, reply: &mut Reply) -> Answer {
     })
 }
 
-fn list(slots: &[Slot], edition: u8, body: &[u8], reply: &mut Reply) -> Answer {
-    match edition {
-        0 => list_by::<HASH>(slots, edition, body, reply),
-        _ => list_by::<LONG_HASH>(slots, edition, body, reply),
-    }
-}
-
-/// The list by hashes of `W` bytes, the length of this edition.
-fn list_by<const W: usize>(slots: &[Slot], edition: u8, body: &[u8], reply: &mut Reply) -> Answer {
+fn list(slots: &[Slot], body: &[u8], reply: &mut Reply) -> Answer {
     let limit = usize::from(u16::from_be_bytes([body[0], body[1]]));
     let most = if limit == 0 { SLOTS } else { limit / HANDLE };
-    let (asked, _) = body[3..].as_chunks::<W>();
+    let (asked, _) = body[3..].as_chunks::<HASH>();
     let mut found = 0;
-    for s in slots.iter().filter(|s| is_listed(s, edition, asked)) {
+    for s in slots.iter().filter(|s| is_listed(s, asked)) {
         if found < most {
             reply[5 + HANDLE * found..][..HANDLE].copy_from_slice(handle(s));
         }
@@ -210,10 +198,7 @@ fn list_by<const W: usize>(slots: &[Slot], edition: u8, body: &[u8], reply: &mut
     Ok(Given::body(1 + HANDLE * found.min(most)))
 }
 
-fn is_listed<const W: usize>(s: &Slot, of: u8, asked: &[[u8; W]]) -> bool {
-    if asked.is_empty() || place(s) != ENABLED {
-        return place(s) == ENABLED;
-    }
-    let (used, _) = s[AT_HASHES..].as_chunks::<W>();
-    edition(s) == of && used[..hashes(s)].iter().any(|hash| asked.contains(hash))
+fn is_listed(s: &Slot, asked: &[[u8; HASH]]) -> bool {
+    let (used, _) = s[AT_HASHES..][..HASH * hashes(s)].as_chunks::<HASH>();
+    place(s) == ENABLED && (asked.is_empty() || used.iter().any(|hash| asked.contains(hash)))
 }

@@ -1,15 +1,14 @@
 //! Slots, and when one is well formed.
 
-/// Sizes in bytes: a slot, a handle, a hash of either edition, and the longest
-/// payload.
+/// Sizes in bytes: a slot, a handle, a hash, and the longest payload.
 pub const SLOT: usize = 4288;
 pub const HANDLE: usize = 10;
 pub const HASH: usize = 20;
-pub const LONG_HASH: usize = 32;
 pub const PAYLOAD: usize = 4096;
 
-/// The most slots of a table.
+/// The most slots of a table, and the most hashes of a slot.
 pub const SLOTS: usize = 15;
+pub const HASHES: usize = 8;
 
 /// The offsets of a slot's parts.
 pub const AT_KEY: usize = 11;
@@ -25,10 +24,10 @@ pub const RESERVED: u8 = 1;
 pub const ENABLED: u8 = 2;
 pub const DISABLED: u8 = 3;
 
-/// The low bits of a slot's first byte: whether a count is kept, and whether hashes
-/// have 32 bytes, which is the edition of the slot.
+/// The low bits of a slot's first byte: whether a count is kept, and a bit that
+/// is always 0.
 pub const KEPT: u8 = 0x02;
-pub const LONG: u8 = 0x01;
+const SPARE: u8 = 0x01;
 
 /// How many bytes are read between two tests.
 const BLOCK: usize = 512;
@@ -48,26 +47,6 @@ pub fn place(s: &Slot) -> u8 {
 
 pub fn hashes(s: &Slot) -> usize {
     usize::from(s[0] >> 2 & 15)
-}
-
-pub fn edition(s: &Slot) -> u8 {
-    s[0] & LONG
-}
-
-/// The length of a hash, by the edition.
-pub fn hash_size(edition: u8) -> usize {
-    match edition {
-        0 => HASH,
-        _ => LONG_HASH,
-    }
-}
-
-/// The most hashes of a slot or a request, by the edition.
-pub fn most_hashes(edition: u8) -> usize {
-    match edition {
-        0 => 8,
-        _ => 5,
-    }
 }
 
 /// The count number, whatever the bit says.
@@ -96,15 +75,13 @@ pub fn find(slots: &[Slot], wanted: &Handle) -> Option<usize> {
         .position(|s| place(s) != EMPTY && handle(s) == wanted)
 }
 
-/// Whether a slot is well formed. One with the mark has a hash at least, and `LONG`
-/// is 1.
 pub fn well_slot(s: &Slot) -> bool {
-    let (hashes, edition, length) = (hashes(s), edition(s), length(s));
+    let (hashes, length) = (hashes(s), length(s));
     match place(s) {
         EMPTY => all_zero(s),
-        _ if hashes < usize::from(edition)
-            || hashes > most_hashes(edition)
+        _ if hashes > HASHES
             || !(1..=PAYLOAD).contains(&length)
+            || s[0] & SPARE != 0
             || s[AT_ZERO] != 0 =>
         {
             false
@@ -114,7 +91,7 @@ pub fn well_slot(s: &Slot) -> bool {
         }
         _ => {
             (s[0] & KEPT != 0 || s[AT_COUNT..AT_LENGTH] == [0, 0])
-                && all_zero(&s[AT_HASHES + hash_size(edition) * hashes..AT_ZERO])
+                && all_zero(&s[AT_HASHES + HASH * hashes..AT_ZERO])
                 && all_zero(&s[AT_PAYLOAD + length..])
         }
     }

@@ -2,7 +2,7 @@
 //! the reply buffer, the table and the tally that the reference gives.
 
 use compare::frames::Asker;
-use compare::outcome::{assert_all_occurred, that_can_occur, Counts, Outcome};
+use compare::outcome::assert_all_occurred;
 use compare::returned::Returned;
 use compare::returns::frame_or_loan;
 use compare::starts::start;
@@ -23,10 +23,10 @@ const OUTSIDE_IN: usize = 12;
 /// One call in how many has a tally that is not that of its table.
 const WRONG_IN: usize = 12;
 
-/// The outcomes of calls, in both editions, and the returns among them.
+/// The numbers that calls gave, and the returns among them.
 #[derive(Default)]
 struct Seen {
-    outcomes: Counts,
+    numbers: BTreeMap<u16, u64>,
     returns: BTreeMap<Returned, u64>,
 }
 
@@ -52,7 +52,7 @@ fn random_calls_agree_with_the_reference() {
             seen.call(&mut rng, &asker, &mut table, &mut tally);
         }
     }
-    assert_all_occurred(&seen.outcomes, that_can_occur());
+    assert_all_occurred(&seen.numbers, vec![0, 101, 102, 103, 104, 105, 106]);
     assert_all_occurred(&seen.returns, Returned::that_can_occur());
 }
 
@@ -63,8 +63,7 @@ impl Seen {
         let frame = frame_or_loan(rng, asker, table);
         let (before, mut reply) = (table.to_vec(), reply_buffer(rng));
         let number = call(start, &frame, table, tally, &mut reply);
-        let outcome = Outcome::of(number, &frame, &reply);
-        *self.outcomes.entry(outcome).or_default() += 1;
+        *self.numbers.entry(number).or_default() += 1;
         if let Some(returned) = Returned::of(&before, number, &frame, &reply) {
             *self.returns.entry(returned).or_default() += 1;
         }

@@ -2,7 +2,7 @@
 ghost use Rattle.std.specs.Prelude.{◌≡◌, ◌+◌, ◌*◌, ◌/◌, ◌%◌, ◌<◌};
 ghost use Rattle.profile.specs.Bytes.{if◌then◌else◌};
 
-// Byte 0 of a slot has the place, the hash count, the bit of a count and the mark of long hashes (PROFILE 2.2): the place's number.
+// Byte 0 of a slot has the place, the hash count, the bit of a count and a spare bit (PROFILE 2.2): the place's number.
 pub fn slot_place(b: u8) -> u8
     ensures { result ≡ b / 64 }
 {
@@ -23,19 +23,19 @@ pub fn slot_kept(b: u8) -> u8
     (b >> 1) & 1
 }
 
-// The bit of slot byte 0 that marks a record with long hashes (PROFILE 1.4).
-pub fn slot_long(head: u8) -> u8
+// The spare bit of slot byte 0, which is 0 in a well-formed slot (PROFILE 2.4).
+pub fn slot_spare(head: u8) -> u8
     ensures { result ≡ head % 2 }
 {
     head & 1
 }
 
-// Slot byte 0 with a place, a hash count, the bit of a count and the mark of long hashes.
-pub fn slot_head(place: u8, hashes: u8, kept: u8, long: u8) -> u8
-    requires { (place < 4) × (hashes < 16) × (kept < 2) × (long < 2) }
-    ensures { result ≡ 64 * place + 4 * hashes + 2 * kept + long }
+// Slot byte 0 with a place, a hash count and the bit of a count, and its spare bit 0.
+pub fn slot_head(place: u8, hashes: u8, kept: u8) -> u8
+    requires { (place < 4) × (hashes < 16) × (kept < 2) }
+    ensures { result ≡ 64 * place + 4 * hashes + 2 * kept }
 {
-    (place << 6) | ((hashes << 2) | ((kept << 1) | long))
+    (place << 6) | ((hashes << 2) | (kept << 1))
 }
 
 // Byte 0 of a frame has the version and the kind (PROFILE 3.1): the version.
@@ -52,12 +52,12 @@ pub fn frame_kind(b: u8) -> u8
     b & 31
 }
 
-// Frame byte 0 with a version and a kind.
-pub fn frame_head(version: u8, kind: u8) -> u8
-    requires { (version < 8) × (kind < 32) }
-    ensures { result ≡ 32 * version + kind }
+// Frame byte 0 with a kind, of version 1.
+pub fn frame_head(kind: u8) -> u8
+    requires { kind < 32 }
+    ensures { result ≡ 32 + kind }
 {
-    (version << 5) | kind
+    (1 << 5) | kind
 }
 
 // A flag is one bit above seven zero bits, as the verdict of a request and the more bit of a list are: the flag.

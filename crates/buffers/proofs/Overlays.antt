@@ -1,10 +1,10 @@
 -- Laws of bytes written over a part of a buffer. Assumes nothing.
-use mathlib.Core.Path.{◌≡◌, refl, sym, ap, ◌∙◌}
-use mathlib.Core.List.{[], ◌∷◌, ◌++◌, append_assoc}
-use Prim.Native.Nat.{ℕ, ◌+◌, ◌≤◌, ◌<◌}
+use mathlib.Core.Path.{◌≡◌, sym, ap, ◌∙◌}
+use mathlib.Core.List.{◌++◌, append_assoc}
+use Prim.Native.Nat.{ℕ, ◌+◌, ◌≤◌}
 use native.Mathlib.Omega.{arith}
-use native.Mathlib.Nat.{zero-add, not-suc-le-zero}
-use lib.ListN.{length, take, drop, set, length-append, length-drop}
+use native.Mathlib.Nat.{zero-add}
+use lib.ListN.{length, take, drop, length-append, length-drop}
 use lib.Seq.{take_at, length-take-le, drop-drop, drop_at}
 use borrow.Rule.Slice.PartMut.{put_mid}
 use Rattle.profile.specs.Bytes.{Bytes, part, over}
@@ -60,9 +60,3 @@ over_copied d s y at from n k h g e f =
 -- all of s as a part of it
 pub whole_over : (at : ℕ) (s d d' : Bytes) → d' ≡ over_at at (part 0 (length s) s) d → d' ≡ over_at at s d
 whole_over at s d d' e = rw (part_all s) at e
-
--- a byte that is stored stands over the byte that was there
-pub over_byte : (s : Bytes) (b : ℕ) → 0 < length s → set s 0 b ≡ over_at 0 (b ∷ []) s
-unfolding over_at
-over_byte [] b h = absurd (not-suc-le-zero h)
-over_byte (x ∷ s) b h = refl

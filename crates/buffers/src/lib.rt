@@ -1,10 +1,7 @@
 // Bytes written into a lent buffer; all its other bytes stay as they are.
-ghost use Rattle.std.specs.Prelude.{◌≡◌, [], ◌∷◌, ◌+◌, ◌≤◌, ◌<◌, length};
+ghost use Rattle.std.specs.Prelude.{◌≡◌, ◌∷◌, ◌+◌, ◌≤◌, ◌<◌, length};
 ghost use Rattle.profile.specs.Bytes.{part, word_bytes};
-ghost use Rattle.profile.specs.Frame.{frame_head};
 ghost use Rattle.buffers.specs.Over.{over_at};
-
-use profile::Edition;
 
 // A part of a slot or a frame goes into a buffer at an offset; the bytes before and after it stay.
 pub fn put_part(out: &mut [u8], at: usize, s: &[u8], from: usize, n: usize)
@@ -32,21 +29,13 @@ pub fn put_word(out: &mut [u8], at: usize, n: u16)
     put_bytes(out, at, &w);
 }
 
-// The head of a frame of version 1, as an array by value: the four bytes before a body of n bytes. The second is a verdict or a status (PROFILE 3.1, 3.2).
+// The head of a frame, as an array by value: the four bytes before a body of n bytes. The second is a verdict or a status (PROFILE 3.1, 3.2).
 pub fn frame_start(kind: u8, second: u8, n: u16) -> [u8; 4]
     requires { kind < 32 }
     ensures { result ≡ (32 + kind) ∷ second ∷ word_bytes n }
 {
-    let first = bits::fields::frame_head(1, kind);
+    let first = bits::fields::frame_head(kind);
     let high = words::high_of(n);
     let low = words::low_of(n);
     [first, second, high, low]
-}
-
-// The first byte of a frame that stands in a buffer becomes that of an edition and a kind (PROFILE 1.4): so it is of that edition, and all its other bytes stay.
-pub fn put_edition(out: &mut [u8], edition: Edition, kind: u8)
-    requires { (1 ≤ length out.old) × (kind < 32) }
-    ensures { out.new ≡ over_at 0 (frame_head edition kind ∷ []) out.old }
-{
-    out[0] = bits::fields::frame_head(editions::version_of(edition), kind);
 }

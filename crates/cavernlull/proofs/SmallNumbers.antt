@@ -7,12 +7,10 @@ use native.Mathlib.Omega.{arith}
 use lib.Dec.{eqb, leb, ltb}
 use lib.ListN.{length}
 use Rattle.profile.specs.Bytes.{Bytes, byte, word}
-use Rattle.profile.specs.Sizes.{most_slots, most_payload, handle_size}
-use Rattle.profile.specs.Edition.{most_hashes}
+use Rattle.profile.specs.Sizes.{most_slots, most_payload, handle_size, most_hashes}
 use Rattle.profile.specs.Slot.{count_holds}
-use Rattle.profile.specs.Frame.{Kind, setup_kind, install_kind, retrieve_kind, rek_kind, enable_kind, remove_kind, cancel_kind, list_kind, info_kind, kind_of, is_status, is_frame, version_holds, edition_in, kind_number, body, kept_in, status_in}
+use Rattle.profile.specs.Frame.{Kind, setup_kind, install_kind, retrieve_kind, rek_kind, enable_kind, remove_kind, cancel_kind, list_kind, info_kind, kind_of, is_status, is_frame, version_holds, kind_number, body, kept_in, status_in}
 use Rattle.profile.specs.Device.{none?, bit_allowed, shaped}
-use Rattle.profile.proofs.Editions.{most_8, hash_room_lem}
 use Rattle.profile.proofs.Logic.{and_parts, leb_le, if_both, if_cases}
 use Rattle.reply_reader.specs.declared.answer.Told.{Told}
 use Rattle.reply_reader.specs.Told.{keyless, payload_from, right_in, key_in, list_in, info_in, told_shaped, told_success, told, Reads}
@@ -26,14 +24,13 @@ module _ (f : Bytes) where
   right_small : shaped retrieve_kind f ≡ true → (byte 22 f / 16 < 65536) × (23 < 65536) × (payload_from f < 65536) × (length f - payload_from f < 65536)
   right_small e =
       let n = byte 22 f / 16 in
-      let most = most_hashes (edition_in f) in
       let room = right_room f e in
-      let hashed : Bool = leb n most && eqb (byte 22 f % 16) 0 in
+      let hashed : Bool = leb n most_hashes && eqb (byte 22 f % 16) 0 in
       let sized : Bool = ltb (payload_from f) (length f) && leb (length f) (payload_from f + most_payload) in
-      let all = and_parts hashed sized (and_parts (hashed && sized) (count_holds (kept_in f) (word 20 f)) (right_tests f room.0 refl refl refl refl refl ∙ e)).0 in
-      let few = leb_le n most (and_parts (leb n most) (eqb (byte 22 f % 16) 0) all.0).0 in
+      let all = and_parts hashed sized (and_parts (hashed && sized) (count_holds (kept_in f) (word 20 f)) (right_tests f room.0 refl refl refl ∙ e)).0 in
+      let few = leb_le n most_hashes (and_parts (leb n most_hashes) (eqb (byte 22 f % 16) 0) all.0).0 in
       let short = leb_le (length f) (payload_from f + most_payload) (and_parts (ltb (payload_from f) (length f)) (leb (length f) (payload_from f + most_payload)) all.1).1 in
-      (omega (arith, few, most_8 (edition_in f)), omega arith, omega (arith, hash_room_lem (edition_in f) n few), omega (arith, short))
+      (omega (arith, few), omega arith, omega (arith, few), omega (arith, short))
 
   list_small : shaped list_kind f ≡ true → ((length f - 5) / handle_size < 65536) × (5 < 65536)
   list_small e =

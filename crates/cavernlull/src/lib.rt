@@ -8,7 +8,7 @@ use profile::number::DONE;
 use profile::sizes::{HANDLE_BYTES, KEY_BYTES};
 use request_fields::Plain;
 
-mod numbers; // numbers.rt: a reply as twelve numbers
+mod numbers; // numbers.rt: a reply as eleven numbers
 
 ghost use Rattle.std.specs.Prelude.{◌≡◌, length};
 ghost use Rattle.profile.specs.Agent.{agent as agentOf};
@@ -76,11 +76,10 @@ pub extern "C" fn cavernlull_tally(table: &[u8], tally: &mut Tally) -> u16
     worked.number
 }
 
-// The request writer of a device (PROFILE 6.2): takes a version, a kind and the fields of all kinds, of which those that the kind lacks must be
-// zero or empty. A count is a number and, beside it, whether one is kept. With 0 the frame stands at the start of `out`, whose other bytes stay. With 202 or 201 nothing is changed.
+// The request writer of a device (PROFILE 6.2): takes a kind and the fields of all kinds, of which those that the kind lacks must be zero or
+// empty. A count is a number and, beside it, whether one is kept. With 0 the frame stands at the start of `out`, whose other bytes stay. With 202 or 201 nothing is changed.
 #[unsafe(no_mangle)]
 pub extern "C" fn cavernlull_write_request(
-    version: u8,
     kind: u8,
     handle: &[u8; HANDLE_BYTES],
     new: &[u8; HANDLE_BYTES],
@@ -93,7 +92,7 @@ pub extern "C" fn cavernlull_write_request(
     payload: &[u8],
     out: &mut [u8],
 ) -> u16
-    ensures { wrote result out.new ≡ write version kind (fields_with handle.now new.now key.now room count kept limit hashes.now payload.now) out.old }
+    ensures { wrote result out.new ≡ write kind (fields_with handle.now new.now key.now room count kept limit hashes.now payload.now) out.old }
 {
     let plain = Plain {
         handle: *handle,
@@ -104,12 +103,12 @@ pub extern "C" fn cavernlull_write_request(
         kept: kept,
         limit: limit,
     };
-    request_writer::writer::write_request(version, kind, plain, hashes, payload, out)
+    request_writer::writer::write_request(kind, plain, hashes, payload, out)
 }
 
-// The reply reader of a device (PROFILE 6.3). With 0 the key and all twelve numbers are written: kind, status, the count's number, number of
+// The reply reader of a device (PROFILE 6.3). With 0 the key and all eleven numbers are written: kind, status, the count's number, number of
 // hashes, offset of the hashes, offset of the payload, payload length, more, number of handles, offset of the handles, whether a count is
-// kept, version. What the reply lacks is 0. With 203 nothing is changed.
+// kept. What the reply lacks is 0. With 203 nothing is changed.
 #[unsafe(no_mangle)]
 pub extern "C" fn cavernlull_read_reply(
     frame: &[u8],
@@ -123,8 +122,7 @@ pub extern "C" fn cavernlull_read_reply(
     let number = reply_reader::answer::number_of(answer);
     if number == DONE {
         let k = told.key;
-        let version = reply_reader::reader::version_in(frame);
-        let n = crate::numbers::numbers_of(answer, version);
+        let n = crate::numbers::numbers_of(answer);
         *key = k;
         *fields = n;
     }

@@ -5,21 +5,20 @@ use mathlib.Core.List.{List, [], ◌∷◌, ◌++◌, append_assoc}
 use native.Mathlib.Omega.{arith}
 use lib.ListN.{length, take, drop}
 use Rattle.profile.specs.Bytes.{Bytes, byte, word_bytes, zeros, joined}
-use Rattle.profile.specs.Edition.{Edition, hash_size, most_hashes, of_hashes}
+use Rattle.profile.specs.Sizes.{hash_size, most_hashes}
 use Rattle.profile.specs.Slot.{Count, Right, recount, HasRoom}
 use Rattle.profile.specs.Table.{slot_head, count_bytes, image_fields, image, blank}
 use Rattle.profile.proofs.Counts.{kept_small, length_count}
 use Rattle.profile.proofs.Strings.{length_zeros, length_each}
-use Rattle.profile.proofs.Editions.{mark_small, most_8, hash_room_lem}
 use Rattle.buffers.specs.Over.{over_at}
 use Rattle.changes.proofs.OverFields.{over_field, zeros_split}
 
 -- ---- one field changed
-module _ (p : ℕ) (h : Bytes) (r : Right) (len : ℕ) (h-10 : length h ≡ 10) (ed : Edition) (f : HasRoom (hash_size ed) (most_hashes ed) r) where
+module _ (p : ℕ) (h : Bytes) (r : Right) (len : ℕ) (h-10 : length h ≡ 10) (f : HasRoom hash_size most_hashes r) where
   pub place_over : (q : ℕ) → over_at 0 ((64 * q + byte 0 (image p h r len) % 64) ∷ []) (image p h r len) ≡ image q h r len
   unfolding image
   place_over q =
-      let e : 64 * q + byte 0 (image p h r len) % 64 ≡ slot_head q r = omega (arith, f.hashed.few, most_8 ed, kept_small r.count, mark_small (of_hashes r.hashes)) in
+      let e : 64 * q + byte 0 (image p h r len) % 64 ≡ slot_head q r = omega (arith, f.hashed.few, kept_small r.count) in
       rw e (over_field (image_fields p h r len) 0 0 (slot_head q r ∷ []) (omega arith) refl refl)
 
   pub handle_over : (k : Bytes) → length k ≡ 10 → over_at 1 k (image p h r len) ≡ image p k r len
@@ -61,7 +60,7 @@ written p h r len s =
     (over_at 1 h
     (over_at 0 (slot_head p r ∷ []) s))))))
 
-module _ (p q : ℕ) (h k : Bytes) (r : Right) (n len : ℕ) (h-10 : length h ≡ 10) (k-10 : length k ≡ 10) (ed : Edition) (f : HasRoom (hash_size ed) (most_hashes ed) r) where
+module _ (p q : ℕ) (h k : Bytes) (r : Right) (n len : ℕ) (h-10 : length h ≡ 10) (k-10 : length k ≡ 10) (f : HasRoom hash_size most_hashes r) where
   abbrev a : ℕ
   a = length (joined r.hashes)
 
@@ -69,7 +68,7 @@ module _ (p q : ℕ) (h k : Bytes) (r : Right) (n len : ℕ) (h-10 : length h �
   m = length r.payload
 
   a_160 : a ≤ 160
-  a_160 = rw (length_each (hash_size ed) r.hashes f.hashed.each) (hash_room_lem ed (length r.hashes) f.hashed.few)
+  a_160 = rw (length_each hash_size r.hashes f.hashed.each) (omega (arith, f.hashed.few))
 
   gap : length (zeros (160 - a)) ≡ 160 - a
   gap = length_zeros (160 - a)

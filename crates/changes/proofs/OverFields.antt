@@ -25,6 +25,12 @@ over_field (p ∷ ps) zero at x h e l = rw (← e, zero-add (length x), drop_at 
 over_field (p ∷ ps) (suc i) at x h e l =
     rw (← e) (over_after p (joined ps) x (total (take i (map length ps))) ∙ ap (λ (r : Bytes). p ++ r) (over_field ps i (total (take i (map length ps))) x (le_of_suc-le-suc h) refl l))
 
+-- a byte that is stored is a field of one byte
+pub over_byte : (s : Bytes) (b : ℕ) → 0 < length s → set s 0 b ≡ over_at 0 (b ∷ []) s
+unfolding over_at
+over_byte [] b h = absurd (not-suc-le-zero h)
+over_byte (x ∷ s) b h = refl
+
 -- zero bytes are two fields of zero bytes
 pub zeros_split : (a n : ℕ) → a ≤ n → zeros n ≡ zeros a ++ zeros (n - a)
 unfolding zeros

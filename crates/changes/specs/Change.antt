@@ -1,8 +1,7 @@
 -- What the contracts of this crate speak of: slot i of a table, and when it may be changed.
 use Rattle.std.specs.Prelude.{ℕ, ◌+◌, ◌*◌, ◌<◌, ◌≡◌, [], true, length, get_or, drop}
 use Rattle.profile.specs.Bytes.{Bytes, part, pieces}
-use Rattle.profile.specs.Sizes.{slot_size}
-use Rattle.profile.specs.Edition.{Edition, hash_size}
+use Rattle.profile.specs.Sizes.{hash_size, slot_size}
 use Rattle.profile.specs.Slot.{Count, Right, right_with}
 use Rattle.profile.specs.Table.{place_of, well_slot, slot_count, slot_bytes, whole_slots, well_table}
 
@@ -22,6 +21,6 @@ pub record Placed (place : ℕ) (s : Bytes) : Type 0 where
   pub well : well_slot s ≡ true
   pub place_is : place_of s ≡ place
 
--- the right of a request of an edition, whose n hashes and payload of m bytes follow each other in its frame, from an offset on
-abbrev pub right_from : Edition → Bytes → Count → ℕ → ℕ → Bytes → ℕ → Right
-right_from e key count n m f at = right_with key count (pieces (hash_size e) n (drop at f)) (part (at + hash_size e * n) m f)
+-- the right of a request whose n hashes and payload of m bytes follow each other in its frame, from an offset on
+abbrev pub right_from : Bytes → Count → ℕ → ℕ → Bytes → ℕ → Right
+right_from key count n m f at = right_with key count (pieces hash_size n (drop at f)) (part (at + hash_size * n) m f)

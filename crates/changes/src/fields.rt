@@ -26,20 +26,20 @@ pub fn put_place(s: &mut [u8], place: u8)
     s[0] = b;
 }
 
-// Byte 0 whole: place, hash count, the bit of a count and the mark of long hashes.
-pub fn put_head(s: &mut [u8], place: u8, hashes: u8, kept: u8, long: u8)
-    requires { (place < 4) × (hashes < 16) × (kept < 2) × (long < 2) × (1 ≤ length s.old) }
-    ensures { s.new ≡ over_at 0 ((64 * place + 4 * hashes + 2 * kept + long) ∷ []) s.old }
+// Byte 0 whole: place, hash count and the bit of a count.
+pub fn put_head(s: &mut [u8], place: u8, hashes: u8, kept: u8)
+    requires { (place < 4) × (hashes < 16) × (kept < 2) × (1 ≤ length s.old) }
+    ensures { s.new ≡ over_at 0 ((64 * place + 4 * hashes + 2 * kept) ∷ []) s.old }
 {
-    s[0] = bits::fields::slot_head(place, hashes, kept, long);
+    s[0] = bits::fields::slot_head(place, hashes, kept);
 }
 
 // Byte 0 and the handle.
-pub fn put_label(s: &mut [u8], place: u8, hashes: u8, kept: u8, long: u8, h: [u8; HANDLE_BYTES])
-    requires { (place < 4) × (hashes < 16) × (kept < 2) × (long < 2) × (key_at ≤ length s.old) }
-    ensures { s.new ≡ over_at handle_at h (over_at 0 ((64 * place + 4 * hashes + 2 * kept + long) ∷ []) s.old) }
+pub fn put_label(s: &mut [u8], place: u8, hashes: u8, kept: u8, h: [u8; HANDLE_BYTES])
+    requires { (place < 4) × (hashes < 16) × (kept < 2) × (key_at ≤ length s.old) }
+    ensures { s.new ≡ over_at handle_at h (over_at 0 ((64 * place + 4 * hashes + 2 * kept) ∷ []) s.old) }
 {
-    put_head(s, place, hashes, kept, long);
+    put_head(s, place, hashes, kept);
     buffers::put_bytes(s, HANDLE_AT, &h);
 }
 

@@ -2,14 +2,13 @@
 // stores into it; no byte of another slot changes, and no slot is copied.
 ghost use Rattle.std.specs.Prelude.{◌≡◌, ◌++◌, ◌+◌, ◌*◌, ◌≤◌, ◌<◌, length, take, drop, set};
 ghost use Rattle.profile.specs.Bytes.{zeros};
-ghost use Rattle.profile.specs.Sizes.{slot_size, most_payload};
-ghost use Rattle.profile.specs.Edition.{hash_size, most_hashes};
+ghost use Rattle.profile.specs.Sizes.{slot_size, hash_size, most_hashes, most_payload};
 ghost use Rattle.profile.specs.Slot.{recount, reserved, enabled, disabled, empty, taken};
 ghost use Rattle.profile.specs.Table.{place_of, handle_of, right_of, slot_count, slots_of, table_of};
 ghost use Rattle.changes.specs.Change.{slot_at, Has, right_from};
 
+use profile::Count;
 use profile::sizes::{HANDLE_BYTES, KEY_BYTES, SLOT_BYTES};
-use profile::{Count, Edition};
 
 mod fields; // fields.rt: a slot's fields written where they stand
 mod slot; // slot.rt: a slot's bytes changed from one record's to another's
@@ -50,18 +49,17 @@ pub fn store_right(
     h: [u8; HANDLE_BYTES],
     key: [u8; KEY_BYTES],
     count: Count,
-    edition: Edition,
     hashes: usize,
     src: &[u8],
     at: usize,
     n: usize,
 )
-    requires { Has t.old i × (place_of (slot_at t.old i) ≡ 1) × (1 ≤ hashes) × (hashes ≤ most_hashes edition) × (n ≤ most_payload) × (at + hash_size edition * hashes + n ≤ length src.now) }
-    ensures { t.new ≡ table_of (set (slots_of t.old) i (taken h (enabled (right_from edition key count hashes n src.now at)))) }
+    requires { Has t.old i × (place_of (slot_at t.old i) ≡ 1) × (hashes ≤ most_hashes) × (n ≤ most_payload) × (at + hash_size * hashes + n ≤ length src.now) }
+    ensures { t.new ≡ table_of (set (slots_of t.old) i (taken h (enabled (right_from key count hashes n src.now at)))) }
 {
     let a = SLOT_BYTES * i;
     let e = a + SLOT_BYTES;
-    slot::install(&mut t[a..e], h, key, count, edition, hashes, src, at, n);
+    slot::install(&mut t[a..e], h, key, count, hashes, src, at, n);
 }
 
 // PROFILE 5.3, 5.4: the record is disabled under the new handle, and nothing else of it changes.

@@ -1,22 +1,21 @@
 // One slot's bytes, changed where they stand from one record's to another's.
 ghost use Rattle.std.specs.Prelude.{◌≡◌, ◌+◌, ◌*◌, ◌≤◌, length};
-ghost use Rattle.profile.specs.Sizes.{most_payload};
-ghost use Rattle.profile.specs.Edition.{hash_size, most_hashes};
+ghost use Rattle.profile.specs.Sizes.{hash_size, most_hashes, most_payload};
 ghost use Rattle.profile.specs.Slot.{recount, reserved, enabled, disabled, taken};
 ghost use Rattle.profile.specs.Table.{handle_of, right_of, pack};
 ghost use Rattle.changes.specs.Change.{Placed, right_from};
 
+use profile::Count;
 use profile::place::{DISABLED, ENABLED, RESERVED};
-use profile::sizes::{HANDLE_BYTES, KEY_BYTES};
+use profile::sizes::{HANDLE_BYTES, HASH_BYTES, KEY_BYTES};
 use profile::slot::{HANDLE_AT, LENGTH_AT};
-use profile::{Count, Edition};
 
 // All bytes of an empty slot are zero, so place, handle and length are all there is to write.
 pub fn reserve(s: &mut [u8], h: [u8; HANDLE_BYTES], n: u16)
     requires { Placed 0 s.old }
     ensures { s.new ≡ pack (taken h (reserved n)) }
 {
-    crate::fields::put_label(s, RESERVED, 0, 0, 0, h);
+    crate::fields::put_label(s, RESERVED, 0, 0, h);
     buffers::put_word(s, LENGTH_AT, n);
 }
 
@@ -26,21 +25,18 @@ pub fn install(
     h: [u8; HANDLE_BYTES],
     key: [u8; KEY_BYTES],
     count: Count,
-    edition: Edition,
     hashes: usize,
     src: &[u8],
     at: usize,
     n: usize,
 )
-    requires { Placed 1 s.old × (1 ≤ hashes) × (hashes ≤ most_hashes edition) × (n ≤ most_payload) × (at + hash_size edition * hashes + n ≤ length src.now) }
-    ensures { s.new ≡ pack (taken h (enabled (right_from edition key count hashes n src.now at))) }
+    requires { Placed 1 s.old × (hashes ≤ most_hashes) × (n ≤ most_payload) × (at + hash_size * hashes + n ≤ length src.now) }
+    ensures { s.new ≡ pack (taken h (enabled (right_from key count hashes n src.now at))) }
 {
     let kept = counts::kept_bit(count);
-    let long = editions::mark_of(edition);
-    crate::fields::put_label(s, ENABLED, hashes as u8, kept, long, h);
+    crate::fields::put_label(s, ENABLED, hashes as u8, kept, h);
     crate::fields::put_terms(s, key, count, n as u16);
-    let size = editions::bytes_of(edition, hashes);
-    crate::fields::put_content(s, src, at, size, n);
+    crate::fields::put_content(s, src, at, HASH_BYTES * hashes, n);
 }
 
 // The place's two bits and the handle: the right itself stays.
@@ -52,14 +48,13 @@ pub fn lend(s: &mut [u8], k: [u8; HANDLE_BYTES])
     buffers::put_bytes(s, HANDLE_AT, &k);
 }
 
-// The place, and the count with its bit: hash count and mark, handle, key, hashes and payload stay.
+// The place, and the count with its bit: hash count, handle, key, hashes and payload stay.
 pub fn enable(s: &mut [u8], count: Count)
     requires { Placed 3 s.old }
     ensures { s.new ≡ pack (taken (handle_of s.old) (enabled (recount count (right_of s.old)))) }
 {
     let hashes = bits::fields::slot_hashes(s[0]);
     let kept = counts::kept_bit(count);
-    let long = bits::fields::slot_long(s[0]);
-    crate::fields::put_head(s, ENABLED, hashes, kept, long);
+    crate::fields::put_head(s, ENABLED, hashes, kept);
     crate::fields::put_count(s, count);
 }

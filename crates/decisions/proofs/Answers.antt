@@ -3,7 +3,6 @@ use Prim.Native.Nat.{ℕ, ◌*◌}
 use mathlib.Core.Path.{◌≡◌, refl, sym, ap, ◌∙◌}
 use mathlib.Core.List.{List, []}
 use Rattle.profile.specs.Bytes.{Bytes, over, Bytes256}
-use Rattle.profile.specs.declared.Edition.TheVariants.{First}
 use Rattle.profile.specs.Slot.{Slot}
 use Rattle.profile.specs.Table.{slots_of, table_of}
 use Rattle.profile.specs.Frame.{Refusal, code, frame}
@@ -23,15 +22,15 @@ pub record Denied (n : ℕ) (a : Answer) : Type 0 where
 
 module _ {kind : ℕ} {a : Answer} {T B B' : Bytes} where
   -- PROFILE 4.2: a status other than 0 leaves the table as it was
-  pub refused_serves : {n : ℕ} → Denied n a → B' ≡ over (frame First kind n []) B → Serves kind a T B T B' Same
+  pub refused_serves : {n : ℕ} → Denied n a → B' ≡ over (frame kind n []) B → Serves kind a T B T B' Same
   unfolding reply_frame
-  refused_serves d e = rw d.answer (record { table_is = refl; reply_is = e ∙ ap (λ (m : ℕ). over (frame First kind m []) B) (sym d.numbered); change_is = sym (none_moved (slots_of T)) })
+  refused_serves d e = rw d.answer (record { table_is = refl; reply_is = e ∙ ap (λ (m : ℕ). over (frame kind m []) B) (sym d.numbered); change_is = sym (none_moved (slots_of T)) })
 
-  pub done_serves : {g : Given} {u : List Slot} {T' : Bytes} → a ≡ done g u → T' ≡ table_of u → B' ≡ over (frame First kind (128 * given_bit g) (write_given g)) B
+  pub done_serves : {g : Given} {u : List Slot} {T' : Bytes} → a ≡ done g u → T' ≡ table_of u → B' ≡ over (frame kind (128 * given_bit g) (write_given g)) B
       → {change : Change} → change ≡ change_in (slots_of T) u → Serves kind a T B T' B' change
   unfolding reply_frame
   done_serves d t e c = rw d (record { table_is = t; reply_is = e; change_is = c })
 
   -- done with nothing changed
-  pub kept_serves : Bytes256 T → Ready T B → a ≡ done nothing (slots_of T) → B' ≡ over (frame First kind 0 []) B → Serves kind a T B T B' Same
+  pub kept_serves : Bytes256 T → Ready T B → a ≡ done nothing (slots_of T) → B' ≡ over (frame kind 0 []) B → Serves kind a T B T B' Same
   kept_serves bytes r d e = done_serves d (sym (table_slots T bytes r.whole r.well)) e (sym (none_moved (slots_of T)))

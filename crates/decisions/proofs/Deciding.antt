@@ -6,11 +6,11 @@ use mathlib.Core.Bool.{Bool, true, false, false≢true}
 use native.Mathlib.Omega.{arith}
 use mathlib.Core.Option.{some}
 use lib.ListN.{length, drop, set, get_elem?}
-use Rattle.profile.specs.Bytes.{Bytes, if◌then◌else◌, part, Bytes256}
+use Rattle.profile.specs.Bytes.{Bytes, part, Bytes256}
 use Rattle.profile.specs.Sizes.{slot_size, payload_at}
 use Rattle.profile.specs.Slot.{Count, Right, recount, Entry, reserved, enabled, disabled, Slot, empty, taken}
 use Rattle.profile.specs.Table.{place_of, handle_of, count_of, length_of, right_of, slots_of}
-use Rattle.profile.specs.Frame.{not_found, duplicate, unexpected, edition_needed, code}
+use Rattle.profile.specs.Frame.{not_found, duplicate, unexpected, code}
 use Rattle.profile.specs.Agent.{Answer, deny, one, find, when_found}
 use Rattle.profile.proofs.Strings.{bytes_take, bytes_drop, length_part}
 use Rattle.profile.proofs.Laws.{found_is}
@@ -31,7 +31,7 @@ use Rattle.tallies.proofs.Changing.{one_moved}
 use Rattle.decisions.specs.declared.decision.Takes.{Takes}
 use Rattle.decisions.specs.declared.decision.Decision.{Decision}
 use Rattle.decisions.specs.declared.decision.Decision.TheVariants.{Refuse, Take}
-use Rattle.decisions.specs.Decisions.{takes_place, awaited, lendable, decided, unless_held, unless_used}
+use Rattle.decisions.specs.Decisions.{takes_place, awaited, lendable, decided, unless_used}
 use Rattle.decisions.specs.Serving.{Ready}
 use Rattle.decisions.proofs.Answers.{Denied}
 
@@ -51,9 +51,6 @@ take_refuse q = let z : ◌≡◌ {A = ℕ} 0 1 = cc in omega arith
 
 refused_is : {m n : ℕ} → Refuse m ≡ Refuse n → m ≡ n
 refused_is q = cc
-
-slot_is : {i j : ℕ} {p o : Place} → Take i p ≡ Take j o → i ≡ j
-slot_is q = cc
 
 placed_is : {i j : ℕ} {p o : Place} → Take i p ≡ Take j o → p ≡ o
 placed_is q = cc
@@ -252,45 +249,3 @@ module _ (used : Bool) (d : Decision) where
       go b (Refuse n) p q e = absurd (take_refuse (sym e))
       go true (Take j r) p q e = absurd (take_refuse (sym e))
       go false (Take j r) p q e = (p, q ∙ e)
-
--- ---- lending: 10 where the record is held back
-module _ (held : ℕ → Bool) (d x : Decision) (e : x ≡ d) where
-  pub unheld_refused : (n : ℕ) → x ≡ Refuse n → x ≡ unless_held held d
-  unfolding unless_held
-  unheld_refused n q = rw (← e, q)
-
-  module _ (i : ℕ) (p : Place) (q : x ≡ Take i p) where
-    pub held_refused : held i ≡ true → Refuse (code edition_needed) ≡ unless_held held d
-    unfolding unless_held
-    held_refused y = rw (← e, q, y)
-
-    pub unheld_decided : held i ≡ false → x ≡ unless_held held d
-    unfolding unless_held
-    unheld_decided y = rw (← e, q, y)
-
-module _ (held : ℕ → Bool) (d : Decision) where
-  -- what was decided before, and whether the record is held back
-  pub holding_refused : {P : Type 0} (n : ℕ) → unless_held held d ≡ Refuse n → (d ≡ Refuse n → P)
-      → ((i : ℕ) (o : Place) → d ≡ Take i o → held i ≡ true → code edition_needed ≡ n → P) → P
-  unfolding unless_held
-  holding_refused {P} n e before after = go d refl e
-    where
-      taken-by : (b : Bool) (i : ℕ) (o : Place) → held i ≡ b → d ≡ Take i o → (if b then Refuse (code edition_needed) else Take i o) ≡ Refuse n → P
-      taken-by true i o p q e = after i o q p (refused_is e)
-      taken-by false i o p q e = absurd (take_refuse e)
-
-      go : (x : Decision) → d ≡ x → unless_held held x ≡ Refuse n → P
-      go (Refuse m) q e = before (q ∙ e)
-      go (Take i o) q e = taken-by (held i) i o refl q e
-
-  pub holding_decided : (i : ℕ) (o : Place) → unless_held held d ≡ Take i o → (held i ≡ false) × (d ≡ Take i o)
-  unfolding unless_held
-  holding_decided i o e = go d refl e
-    where
-      taken-by : (b : Bool) (j : ℕ) (r : Place) → held j ≡ b → d ≡ Take j r → (if b then Refuse (code edition_needed) else Take j r) ≡ Take i o → (held i ≡ false) × (d ≡ Take i o)
-      taken-by true j r p q e = absurd (take_refuse (sym e))
-      taken-by false j r p q e = (ap held (sym (slot_is e)) ∙ p, q ∙ e)
-
-      go : (x : Decision) → d ≡ x → unless_held held x ≡ Take i o → (held i ≡ false) × (d ≡ Take i o)
-      go (Refuse n) q e = absurd (take_refuse (sym e))
-      go (Take j r) q e = taken-by (held j) j r refl q e

@@ -1,10 +1,7 @@
 -- What is decided of a request on the record under its handle, before anything is changed.
-use Rattle.std.specs.Prelude.{ℕ, Bool, true, false, ◌&&◌, eqb}
+use Rattle.std.specs.Prelude.{Bool, true, false}
 use Rattle.profile.specs.Bytes.{if◌then◌else◌}
-use Rattle.profile.specs.Edition.{Edition}
-use Rattle.profile.specs.Slot.{Right}
-use Rattle.profile.specs.Frame.{not_found, duplicate, unexpected, edition_needed, code}
-use Rattle.profile.specs.Agent.{other_edition}
+use Rattle.profile.specs.Frame.{not_found, duplicate, unexpected, code}
 use Rattle.slots.specs.declared.place.Place.{Place}
 use Rattle.slots.specs.declared.place.Place.TheVariants.{Empty, Reserved, Enabled, Disabled}
 use Rattle.tables.specs.declared.lookup.Lookup.{Lookup}
@@ -38,15 +35,6 @@ installed = record { reserved = false; enabled = true; disabled = true }
 -- and of these the one that kind 5 changes
 abbrev pub lent : Takes
 lent = record { reserved = false; enabled = false; disabled = true }
-
--- PROFILE 5.3 and 5.4: kind 3 holds back a right of the other edition; kind 4 holds back nothing
-abbrev pub held_by : ℕ → Edition → Right → Bool
-held_by kind e r = eqb kind 3 && other_edition e r
-
--- what was decided before, unless the record in the slot is held back
-unfoldable pub unless_held : (ℕ → Bool) → Decision → Decision
-unless_held held (Refuse n) = Refuse n
-unless_held held (Take i p) = if held i then Refuse (code edition_needed) else Take i p
 
 -- kinds 3 and 4: what was decided before, unless the new handle is in use, be it in the record's own slot
 unfoldable pub unless_used : Bool → Decision → Decision

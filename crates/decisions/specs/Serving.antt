@@ -2,8 +2,6 @@
 use Rattle.std.specs.Prelude.{ℕ, ◌≤◌, ◌≡◌, true, length}
 use Rattle.profile.specs.Bytes.{Bytes}
 use Rattle.profile.specs.Sizes.{reply_room}
-use Rattle.profile.specs.declared.Edition.TheVariants.{First}
-use Rattle.profile.specs.Edition.{Edition}
 use Rattle.profile.specs.Table.{slots_of, whole_slots, well_table}
 use Rattle.profile.specs.Request.{Request}
 use Rattle.profile.specs.Agent.{Answer, act, replied}
@@ -16,17 +14,16 @@ pub record Ready (table buffer : Bytes) : Type 0 where
   pub well : well_table table ≡ true
   pub room : reply_room ≤ length buffer
 
--- what the agent answers to a request of an edition, on a table's bytes, where `free` is the slot that a setup takes
-abbrev pub answer_at : Edition → ℕ → Bytes → Request → Answer
-answer_at e free table q = act e free (slots_of table) q
+-- what the agent answers to a request, on a table's bytes, where `free` is the slot that a setup takes
+abbrev pub answer_at : ℕ → Bytes → Request → Answer
+answer_at free table q = act free (slots_of table) q
 
--- the same for kinds 2 and 4 to 9, which take no free slot and know no edition: it is their answer whatever both are (`slot_unused`,
--- crates/profile/proofs/Starts.antt, and `edition_unused`, crates/serving/proofs/Served.antt)
+-- the same for kinds 2 to 9, which take no free slot: it is their answer whatever `free` is (`slot_unused`, crates/profile/proofs/Starts.antt)
 abbrev pub answer_to : Bytes → Request → Answer
-answer_to table q = answer_at First 0 table q
+answer_to table q = answer_at 0 table q
 
--- the table and the reply buffer afterwards, every byte of them, are those of the answer, and so is the change; the reply is of version 1, until its edition is set
+-- the table and the reply buffer afterwards, every byte of them, are those of the answer, and so is the change
 pub record Serves (kind : ℕ) (a : Answer) (table buffer table' buffer' : Bytes) (change : Change) : Type 0 where
-  pub table_is : table' ≡ (replied First kind a table buffer).table
-  pub reply_is : buffer' ≡ (replied First kind a table buffer).reply
+  pub table_is : table' ≡ (replied kind a table buffer).table
+  pub reply_is : buffer' ≡ (replied kind a table buffer).reply
   pub change_is : change ≡ change_by (slots_of table) a

@@ -1,42 +1,43 @@
-// A small reader that holds a slot's hash bytes, the length of each hash and a position: two thin functions over it, and above them
-// one with plain parameters, which serves every caller. The three are proved by hand. A hash is compared where it stands.
+// A small reader that holds a slot's hash bytes and a position: two thin functions over it, and above them one with plain
+// parameters, which serves every caller. The three are proved by hand.
 ghost use Rattle.std.specs.Prelude.{◌≡◌};
-ghost use Rattle.hashes.specs.Readers.{is_at, CanTell, reader_at, read_as, Reads};
+ghost use Rattle.hashes.specs.Readers.{hash_at, HashStands, reader_at, hash_read, Reads};
+
+use profile::sizes::HASH_BYTES;
 
 #[derive(Drop)]
 struct HashReader<'a> {
     bytes: &'a [u8],
-    width: usize, // how many bytes a hash has
     at: usize, // which of the hashes, from 0
 }
 
-// Whether the hash at a position of some hash bytes is the one asked for.
-fn is_at(bytes: &[u8], width: usize, at: usize, asked: &[u8]) -> bool
-    requires { CanTell width at asked.now bytes.now }
-    ensures { result ≡ is_at width at asked.now bytes.now }
+// The hash at a position of some hash bytes, by value.
+fn nth_hash(bytes: &[u8], at: usize) -> [u8; HASH_BYTES]
+    requires { HashStands at bytes.now }
+    ensures { result ≡ hash_at at bytes.now }
 {
-    octets::compare::same_from(asked, bytes, width * at)
+    octets::arrays::hash_at(bytes, HASH_BYTES * at)
 }
 
 // A reader of some hash bytes, at a position.
-fn reader_at<'a>(bytes: &'a [u8], width: usize, at: usize) -> HashReader<'a>
-    ensures { result ≡ reader_at bytes.entry width at }
+fn reader_at<'a>(bytes: &'a [u8], at: usize) -> HashReader<'a>
+    ensures { result ≡ reader_at bytes.entry at }
 {
-    HashReader { bytes, width, at }
+    HashReader { bytes, at }
 }
 
-// Whether the hash at the reader's position is the one asked for.
-fn reads<'a, 'b>(reader: HashReader<'a>, asked: &'b [u8]) -> bool
-    requires { Reads reader asked.now }
-    ensures { result ≡ read_as reader.entry asked.now }
+// The hash at the reader's position.
+fn read<'a>(reader: HashReader<'a>) -> [u8; HASH_BYTES]
+    requires { Reads reader }
+    ensures { result ≡ hash_read reader.entry }
 {
-    is_at(reader.bytes, reader.width, reader.at, asked)
+    nth_hash(reader.bytes, reader.at)
 }
 
-// Whether hash i of a slot's hash bytes, counted from 0, is the one asked for, through a reader of them.
-pub(crate) fn hash_is(bytes: &[u8], width: usize, i: usize, asked: &[u8]) -> bool
-    requires { CanTell width i asked.now bytes.now }
-    ensures { result ≡ is_at width i asked.now bytes.now }
+// Hash i of a slot's hash bytes, counted from 0, through a reader of them.
+pub(crate) fn hash_of(bytes: &[u8], i: usize) -> [u8; HASH_BYTES]
+    requires { HashStands i bytes.now }
+    ensures { result ≡ hash_at i bytes.now }
 {
-    reads(reader_at(bytes, width, i), asked)
+    read(reader_at(bytes, i))
 }

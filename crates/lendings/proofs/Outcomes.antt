@@ -1,12 +1,12 @@
 -- The agent's answer to kinds 3 and 4, outcome by outcome. Assumes nothing.
 use Prim.Native.Nat.{ℕ}
 use mathlib.Core.Path.{◌≡◌, refl, sym, ◌∙◌}
-use mathlib.Core.Bool.{Bool, false, true≢false}
+use mathlib.Core.Bool.{false, true≢false}
 use lib.ListN.{set}
 use Rattle.profile.specs.Bytes.{Bytes, Bytes256}
 use Rattle.profile.specs.Slot.{Right, Entry, disabled, taken, in_use}
 use Rattle.profile.specs.Table.{right_of, slots_of}
-use Rattle.profile.specs.Frame.{duplicate, edition_needed}
+use Rattle.profile.specs.Frame.{duplicate}
 use Rattle.profile.specs.Agent.{Given, Answer, done, find, when_found, lend_at}
 use Rattle.slots.specs.declared.place.Place.{Place}
 use Rattle.slots.specs.declared.place.Place.TheVariants.{Enabled}
@@ -14,46 +14,31 @@ use Rattle.tables.specs.LookUp.{found_at}
 use Rattle.changes.specs.Change.{slot_at}
 use Rattle.decisions.specs.declared.decision.Decision.{Decision}
 use Rattle.decisions.specs.declared.decision.Decision.TheVariants.{Refuse, Take}
-use Rattle.decisions.specs.Decisions.{lendable, decided, unless_held, unless_used}
+use Rattle.decisions.specs.Decisions.{lendable, decided, unless_used}
 use Rattle.decisions.specs.Serving.{Ready}
 use Rattle.decisions.proofs.Answers.{Denied}
-use Rattle.decisions.proofs.Deciding.{expects, refuses, Held, chosen_enabled, holding_refused, holding_decided, lending_refused, lending_decided}
+use Rattle.decisions.proofs.Deciding.{expects, refuses, Held, chosen_enabled, lending_refused, lending_decided}
 
 -- ---- 3 and 4, by the decision d, whatever they give
-module _ (T B h k : Bytes) (bytes : Bytes256 T) (r : Ready T B) (held : Right → Bool) (d : Decision)
-    (e : d ≡ unless_used (in_use k (slots_of T)) (unless_held (λ i. held (right_of (slot_at T i))) (decided lendable (found_at (find h (slots_of T)))))) where
+module _ (T B h k : Bytes) (bytes : Bytes256 T) (r : Ready T B) (d : Decision) (e : d ≡ unless_used (in_use k (slots_of T)) (decided lendable (found_at (find h (slots_of T))))) where
   abbrev before : Decision
   before = decided lendable (found_at (find h (slots_of T)))
 
-  -- whether the record in slot i is held back
-  abbrev holds : ℕ → Bool
-  holds i = held (right_of (slot_at T i))
-
-  stands : (i : ℕ) (o : Place) → before ≡ Take i o → Held T h i Enabled
-  stands i o q = chosen_enabled T B h bytes r before refl i o q
-
-  pub lend_refused : (give : Right → Given) (n : ℕ) → d ≡ Refuse n → Denied n (when_found (find h (slots_of T)) (lend_at (slots_of T) k held give))
+  pub lend_refused : (give : Right → Given) (n : ℕ) → d ≡ Refuse n → Denied n (when_found (find h (slots_of T)) (lend_at (slots_of T) k give))
   lend_refused give n q =
-      lending_refused (in_use k (slots_of T)) (unless_held holds before) n (sym e ∙ q)
-      (λ x. holding_refused holds before n x
+      lending_refused (in_use k (slots_of T)) before n (sym e ∙ q)
       (refuses h (slots_of T) lendable at (expects lendable at (λ _ i n. refl) (λ q. absurd (true≢false q)) (λ _ i r. refl)) before refl n)
-      (λ i o q back ten. record { refusal = edition_needed; numbered = ten; answer = rw ((stands i o q).found, back) }))
-      (λ i o x used five.
-      let y = holding_decided holds before i o x in
-      record { refusal = duplicate; numbered = five; answer = rw ((stands i o y.1).found, y.0, used) })
+      (λ i o q used five. record { refusal = duplicate; numbered = five; answer = rw ((chosen_enabled T B h bytes r before refl i o q).found, used) })
     where
       at : ℕ → Entry → Answer
-      at = lend_at (slots_of T) k held give
+      at = lend_at (slots_of T) k give
 
   module _ (i : ℕ) (o : Place) (q : d ≡ Take i o) where
-    free : (in_use k (slots_of T) ≡ false) × (unless_held holds before ≡ Take i o)
-    free = lending_decided (in_use k (slots_of T)) (unless_held holds before) i o (sym e ∙ q)
-
-    not_held : (holds i ≡ false) × (before ≡ Take i o)
-    not_held = holding_decided holds before i o free.1
+    free : (in_use k (slots_of T) ≡ false) × (before ≡ Take i o)
+    free = lending_decided (in_use k (slots_of T)) before i o (sym e ∙ q)
 
     pub to_lend : Held T h i Enabled
-    to_lend = stands i o not_held.1
+    to_lend = chosen_enabled T B h bytes r before refl i o free.1
 
-    pub lends : (give : Right → Given) → when_found (find h (slots_of T)) (lend_at (slots_of T) k held give) ≡ done (give (right_of (slot_at T i))) (set (slots_of T) i (taken k (disabled (right_of (slot_at T i)))))
-    lends give = rw (to_lend.found, not_held.0, free.0)
+    pub lends : (give : Right → Given) → when_found (find h (slots_of T)) (lend_at (slots_of T) k give) ≡ done (give (right_of (slot_at T i))) (set (slots_of T) i (taken k (disabled (right_of (slot_at T i)))))
+    lends give = rw (to_lend.found, free.0)

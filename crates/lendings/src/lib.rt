@@ -1,19 +1,15 @@
-// Kinds 3 and 4, Rights Retrieval and REK Query: a right is lent. They differ in what the reply gives, and so in the edition that kind 3 needs. Every check precedes every
+// Kinds 3 and 4, Rights Retrieval and REK Query: a right is lent. They differ in what the reply gives. Every check precedes every
 // change.
 ghost use Rattle.std.specs.Prelude.{◌≡◌, ◌*◌, ◌≤◌, length};
 ghost use Rattle.profile.specs.Bytes.{over};
-ghost use Rattle.profile.specs.Sizes.{slot_size, reply_room, most_payload};
-ghost use Rattle.profile.specs.declared.Edition.TheVariants.{First};
-ghost use Rattle.profile.specs.Edition.{most_hashes};
-ghost use Rattle.profile.specs.Table.{hash_count_of, edition_at, length_of, right_of, slots_of};
+ghost use Rattle.profile.specs.Sizes.{slot_size, reply_room, most_hashes, most_payload};
+ghost use Rattle.profile.specs.Table.{hash_count_of, length_of, right_of, slots_of};
 ghost use Rattle.profile.specs.Frame.{frame};
 ghost use Rattle.profile.specs.Agent.{find, when_found, lend_at, given_bit, write_given};
-ghost use Rattle.decisions.specs.Decisions.{held_by};
 ghost use Rattle.decisions.specs.Serving.{Ready, Serves};
 ghost use Rattle.lendings.specs.Lending.{lent_by};
 
 use decisions::decision::Decision;
-use profile::Edition;
 use profile::sizes::HANDLE_BYTES;
 use profile::slot::LENGTH_AT;
 use slots::place::Place;
@@ -21,8 +17,8 @@ use tallies::update::Change;
 
 // The reply at success, from the record's slot: kind 3 has the whole right and says whether it keeps a count, kind 4 has its key (PROFILE 3.2, 3.4).
 fn reply_lent(reply: &mut [u8], slot: &[u8], kind: u8)
-    requires { (3 ≤ kind) × (kind ≤ 4) × (reply_room ≤ length reply.old) × (length slot.now ≡ slot_size) × (hash_count_of slot.now ≤ most_hashes (edition_at slot.now)) × (length_of slot.now ≤ most_payload) }
-    ensures { reply.new ≡ over (frame First kind (128 * given_bit (lent_by kind (right_of slot.now))) (write_given (lent_by kind (right_of slot.now)))) reply.old }
+    requires { (3 ≤ kind) × (kind ≤ 4) × (reply_room ≤ length reply.old) × (length slot.now ≡ slot_size) × (hash_count_of slot.now ≤ most_hashes) × (length_of slot.now ≤ most_payload) }
+    ensures { reply.new ≡ over (frame kind (128 * given_bit (lent_by kind (right_of slot.now))) (write_given (lent_by kind (right_of slot.now)))) reply.old }
 {
     if kind == 3 {
         reply_writer::writer::reply_right(reply, slot);
@@ -39,12 +35,11 @@ pub fn lend(
     h: [u8; HANDLE_BYTES],
     k: [u8; HANDLE_BYTES],
     kind: u8,
-    edition: Edition,
 ) -> Change
     requires { Ready table.old reply.old × (3 ≤ kind) × (kind ≤ 4) }
-    ensures { Serves kind (when_found (find h (slots_of table.old)) (lend_at (slots_of table.old) k (held_by kind edition) (lent_by kind))) table.old reply.old table.new reply.new result }
+    ensures { Serves kind (when_found (find h (slots_of table.old)) (lend_at (slots_of table.old) k (lent_by kind))) table.old reply.old table.new reply.new result }
 {
-    match decisions::lending::slot_to_lend(table, h, k, kind, edition) {
+    match decisions::lending::slot_to_lend(table, h, k) {
         Decision::Refuse(status) => {
             reply_writer::writer::reply_status(reply, kind, status);
             Change::Same

@@ -8,7 +8,6 @@ use lib.ListN.{length, take, drop, length-append, take-append-drop}
 use lib.Seq.{drop_at, length-take-le}
 use Rattle.profile.specs.Bytes.{Bytes, if◌then◌else◌, over, joined, Each}
 use Rattle.profile.specs.Sizes.{handle_size}
-use Rattle.profile.specs.declared.Edition.TheVariants.{First}
 use Rattle.profile.specs.Frame.{frame}
 use Rattle.profile.specs.Slot.{Slot}
 use Rattle.profile.specs.Agent.{handles, done, reply_frame}
@@ -49,7 +48,7 @@ over_front xs ys d n e h =
 
 -- after `close_list`, whatever the slots are
 pub list_closed : (hs : List Bytes) (n : ℕ) (b : Bytes) → Each handle_size hs → length hs ≡ n → 5 + handle_size * n ≤ length b → {d d' : Bytes} (more : Bool) (t : List Slot)
-    → d ≡ holding hs b → d' ≡ over (list_start n more) d → d' ≡ over (reply_frame First 8 (done (handles more hs) t)) b
+    → d ≡ holding hs b → d' ≡ over (list_start n more) d → d' ≡ over (reply_frame 8 (done (handles more hs) t)) b
 unfolding holding list_start frame reply_frame
 list_closed hs n b each count fits more t p q =
     q

@@ -12,14 +12,13 @@ use Rattle.profile.specs.Bytes.{Bytes, part, joined}
 use Rattle.profile.specs.Sizes.{slot_size, most_slots}
 use Rattle.profile.specs.Text.{text}
 use Rattle.profile.specs.Slot.{count_number}
-use Rattle.profile.specs.Table.{place_of, hash_count_of, edition_at, count_of, length_of, slot_count, slot_bytes, well_slot}
+use Rattle.profile.specs.Table.{place_of, hash_count_of, count_of, length_of, slot_count, slot_bytes, well_slot}
 use Rattle.profile.specs.Listing.{decimal, place_word, line, lines}
 use Rattle.profile.proofs.WellFormed.{few_slots}
 use Rattle.slots.specs.declared.head.Head.{Head}
 use Rattle.slots.specs.Heads.{HeadOf}
 use Rattle.slots.specs.Places.{place_number}
 use Rattle.tables.proofs.SlotParts.{length_bytes, length_slots, get_d_slots}
-use Rattle.profile.proofs.Editions.{most_8}
 use Rattle.slots.proofs.WellSlots.{few_hashes, length_most_4096}
 use Rattle.tables.proofs.WellTables.{slot_well}
 use Rattle.texts.specs.Written.{Wrote, number}
@@ -122,7 +121,7 @@ module _ (t b : Bytes) (at : ℕ) (fit : Listable t) (room : at + 25 * most_slot
       well-s = rw e (slot_well t i fit.well h)
 
       few-next : hash_count_of s < 10
-      few-next = omega (arith, few_hashes s well-s, most_8 (edition_at s))
+      few-next = omega (arith, few_hashes s well-s)
 
       short-next : length_of s < 10000
       short-next = omega (arith, length_most_4096 s well-s)

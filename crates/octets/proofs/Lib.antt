@@ -2,5 +2,4 @@
 pub mod ByteBounds
 pub mod Parts
 pub mod Copying
-pub mod Padded
 pub mod Comparing

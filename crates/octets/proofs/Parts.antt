@@ -1,9 +1,6 @@
--- Parts of a string: a byte of one, all of the string as one, a part of what is left after an offset, and where a piece ends.
--- Assumes nothing.
+-- Parts of a string: a byte of one, all of the string as one, and a part of what is left after an offset. Assumes nothing.
 use mathlib.Core.Path.{◌≡◌, ap}
-use Prim.Native.Nat.{ℕ, ◌+◌, ◌*◌, ◌<◌, ◌≤◌}
-use native.Mathlib.Nat.{mul-le-mul_left}
-use native.Mathlib.Omega.{arith}
+use Prim.Native.Nat.{ℕ, ◌+◌, ◌<◌}
 use lib.ListN.{length, take, drop, get_or}
 use lib.Seq.{get_or-take, get_or-drop, take-length, drop-drop}
 use Rattle.profile.specs.Bytes.{Bytes, part}
@@ -16,7 +13,3 @@ part_all s = take-length s
 
 pub part_drop : (at from n : ℕ) (s : Bytes) → part from n (drop at s) ≡ part (at + from) n s
 part_drop at from n s = ap (λ (l : Bytes). take n l) (drop-drop from at s)
-
--- of n pieces of k bytes, each ends where they all end, or before
-pub piece_ends : (k i n : ℕ) → i < n → k * i + k ≤ k * n
-piece_ends k i n h = omega (arith, mul-le-mul_left k h)

@@ -1,10 +1,9 @@
 // Handles, keys and hashes read from a frame or a slot as arrays by value.
-ghost use Rattle.std.specs.Prelude.{◌≡◌, ◌++◌, map, ◌+◌, ◌-◌, ◌*◌, ◌≤◌, length, drop, replicate};
+ghost use Rattle.std.specs.Prelude.{◌≡◌, ◌++◌, ◌+◌, ◌-◌, ◌*◌, ◌≤◌, length, drop, replicate};
 ghost use Rattle.profile.specs.Bytes.{part, pieces, zeros};
-ghost use Rattle.profile.specs.Sizes.{handle_size, key_size, longest_hash, most_of_either};
-ghost use Rattle.octets.specs.Padding.{padded};
+ghost use Rattle.profile.specs.Sizes.{handle_size, key_size, hash_size, most_hashes};
 
-use profile::sizes::{HANDLE_BYTES, KEY_BYTES, LONGEST_HASH, MOST_HASHES};
+use profile::sizes::{HANDLE_BYTES, HASH_BYTES, KEY_BYTES, MOST_HASHES};
 
 // The one copying loop: it fills arrays of every width, and parts of a buffer.
 pub fn copy_from(d: &mut [u8], s: &[u8], at: usize)
@@ -38,24 +37,25 @@ pub fn key_at(s: &[u8], at: usize) -> [u8; KEY_BYTES]
     k
 }
 
-// One asset hash of `width` bytes, put at the front of an array; the rest of the array stays.
-fn put_hash(d: &mut [u8], s: &[u8], at: usize, width: usize)
-    requires { (width ≤ length d.old) × (at + width ≤ length s.now) }
-    ensures { d.new ≡ part at width s.now ++ drop width d.old }
+// One asset hash, as an array by value.
+pub fn hash_at(s: &[u8], at: usize) -> [u8; HASH_BYTES]
+    requires { at + hash_size ≤ length s.now }
+    ensures { result ≡ part at hash_size s.now }
 {
-    copy_from(&mut d[..width], s, at);
+    let mut hash = [0u8; HASH_BYTES];
+    copy_from(&mut hash, s, at);
+    hash
 }
 
-// The hashes of a list query, `width` bytes each, as an array of arrays: the first n are the query's, in its order and each with zeros
-// after it, and the rest are all zero.
-pub fn hashes_at(s: &[u8], at: usize, n: usize, width: usize) -> [[u8; LONGEST_HASH]; MOST_HASHES]
-    requires { (width ≤ longest_hash) × (n ≤ most_of_either) × (at + width * n ≤ length s.now) }
-    ensures { result ≡ map padded (pieces width n (drop at s.now)) ++ replicate (most_of_either - n) (zeros longest_hash) }
+// The hashes of a list query, as an array of arrays: the first n are the query's, in its order, and the rest are all zero.
+pub fn hashes_at(s: &[u8], at: usize, n: usize) -> [[u8; HASH_BYTES]; MOST_HASHES]
+    requires { (n ≤ most_hashes) × (at + hash_size * n ≤ length s.now) }
+    ensures { result ≡ pieces hash_size n (drop at s.now) ++ replicate (most_hashes - n) (zeros hash_size) }
 {
-    let mut q = [[0u8; LONGEST_HASH]; MOST_HASHES];
+    let mut q = [[0u8; HASH_BYTES]; MOST_HASHES];
     let mut i = 0;
     while i < n {
-        put_hash(&mut q[i], s, at + width * i, width);
+        q[i] = hash_at(s, at + HASH_BYTES * i);
         i += 1;
     }
     q

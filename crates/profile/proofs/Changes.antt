@@ -7,10 +7,9 @@ use native.Mathlib.Omega.{arith}
 use lib.Dec.{eqb}
 use lib.IntN.{ℤ, pos, neg_ℤ, ◌+ℤ◌, ◌-ℤ◌, +ℤ_idl, +ℤ_assoc, +ℤ_invr, neg_ℤ-+ℤ, pos-+ℤ-pos}
 use Rattle.profile.specs.Bytes.{Bytes, if◌then◌else◌}
-use Rattle.profile.specs.Edition.{Edition}
 use Rattle.profile.specs.Slot.{Count, NoneKept, Kept, raises, reserved, enabled, disabled, Slot}
 use Rattle.profile.specs.Table.{slots_of}
-use Rattle.profile.specs.Frame.{edition_in, kind_number}
+use Rattle.profile.specs.Frame.{kind_number}
 use Rattle.profile.specs.Request.{Request, setup, install, retrieve, rek, enable, remove, cancel, list, info, Read, asks, refused, no_frame, read_request}
 use Rattle.profile.specs.Agent.{Answer, Found, absent, one, find, when_found, enable_at, act, status, Call, Outcome, refuse, obey, on_bytes}
 use Rattle.profile.specs.Run.{exchange}
@@ -72,17 +71,17 @@ module _ (t : List Slot) where
   enable_below h c (one i (disabled r)) =
       if_cases (λ (a : Answer). Below a (returned r.count c)) (raises r.count c) (λ e. none_above) (return_below r.count c)
 
-  acts_below : (ed : Edition) (free : ℕ) (q : Request) → Below (act ed free t q) (return_by t q)
+  acts_below : (free : ℕ) (q : Request) → Below (act free t q) (return_by t q)
   unfolding act
-  acts_below ed free (setup h n) = nothing_below (act ed free t (setup h n))
-  acts_below ed free (install h r) = nothing_below (act ed free t (install h r))
-  acts_below ed free (retrieve h k) = nothing_below (act ed free t (retrieve h k))
-  acts_below ed free (rek h k) = nothing_below (act ed free t (rek h k))
-  acts_below ed free (enable h c) = enable_below h c (find h t)
-  acts_below ed free (remove h) = nothing_below (act ed free t (remove h))
-  acts_below ed free (cancel h) = nothing_below (act ed free t (cancel h))
-  acts_below ed free (list limit q) = nothing_below (act ed free t (list limit q))
-  acts_below ed free (info h) = nothing_below (act ed free t (info h))
+  acts_below free (setup h n) = nothing_below (act free t (setup h n))
+  acts_below free (install h r) = nothing_below (act free t (install h r))
+  acts_below free (retrieve h k) = nothing_below (act free t (retrieve h k))
+  acts_below free (rek h k) = nothing_below (act free t (rek h k))
+  acts_below free (enable h c) = enable_below h c (find h t)
+  acts_below free (remove h) = nothing_below (act free t (remove h))
+  acts_below free (cancel h) = nothing_below (act free t (cancel h))
+  acts_below free (list limit q) = nothing_below (act free t (list limit q))
+  acts_below free (info h) = nothing_below (act free t (info h))
 
 module _ (table : Bytes) (c : Call) where
   abbrev ReadBelow : Read → Outcome → Type 0
@@ -93,10 +92,8 @@ module _ (table : Bytes) (c : Call) where
   refused_below n e (refused r) = none_above
   refused_below n e no_frame = none_above
 
-  answered_below : (free : ℕ) (r : Read) → ReadBelow r (on_bytes (edition_in c.request) (kind_number c.request) (obey (edition_in c.request) r free (slots_of table)) table c)
-  answered_below free (asks q) =
-      rw (status_over (edition_in c.request) (kind_number c.request) (act (edition_in c.request) free (slots_of table) q) c.buffer)
-      (acts_below (slots_of table) (edition_in c.request) free q)
+  answered_below : (free : ℕ) (r : Read) → ReadBelow r (on_bytes (kind_number c.request) (obey r free (slots_of table)) table c)
+  answered_below free (asks q) = rw (status_over (kind_number c.request) (act free (slots_of table) q) c.buffer) (acts_below (slots_of table) free q)
   answered_below free (refused r) = none_above
   answered_below free no_frame = none_above
 

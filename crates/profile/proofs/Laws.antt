@@ -1,6 +1,6 @@
 -- The laws of slots and setups hold (PROFILE 2.5, 4 and 5.1): rules said in another way than their definitions say them.
 use Prim.Native.Nat.{ℕ, zero, suc, ◌+◌, ◌%◌, ◌≤◌, ◌<◌}
-use mathlib.Core.Path.{◌≡◌, refl, sym, ap, ap₂, ◌∙◌, subst}
+use mathlib.Core.Path.{◌≡◌, refl, sym, ap, ◌∙◌, subst}
 use mathlib.Core.List.{List, [], ◌∷◌}
 use mathlib.Core.Option.{Option, none, some, some-injective}
 use mathlib.Core.Bool.{Bool, true, false, not, ◌||◌, true≢false, false≢true}
@@ -13,12 +13,11 @@ use Rattle.profile.specs.Sizes.{reply_room}
 use Rattle.profile.specs.Slot.{Right, Entry, reserved, enabled, disabled, Slot, empty, taken, in_use, distinct}
 use Rattle.profile.specs.Table.{slot_count, slots_of, whole_slots, well_table}
 use Rattle.profile.specs.Tally.{tally_in}
-use Rattle.profile.specs.Edition.{Edition, of_version}
-use Rattle.profile.specs.Frame.{version_in, or_first, edition_in, kind_number, frame_head, frame}
+use Rattle.profile.specs.Frame.{kind_number, frame}
 use Rattle.profile.specs.Request.{setup, Read, asks, refused, no_frame, read_request}
 use Rattle.profile.specs.Agent.{Given, Found, absent, one, next, find, Answer, deny, done, act, first_empty_from, status_byte, reply_frame, Call, refuse, replied, obey, on_bytes, agent}
-use Rattle.profile.specs.Laws.{Apart, first_byte, Refuses, FoundIs, Full, SetsFirst}
-use Rattle.profile.proofs.Logic.{both, and_parts, not_true, eqb_eq, eqb_true, if_cases, same_refl, split}
+use Rattle.profile.specs.Laws.{Apart, Refuses, FoundIs, Full, SetsFirst}
+use Rattle.profile.proofs.Logic.{both, and_parts, not_true, eqb_true, same_refl, split}
 use Rattle.profile.proofs.Frames.{coded}
 use Rattle.profile.proofs.FirstEmpty.{not_there, empty_not_taken, first_empty, first_only, none_empty}
 use Rattle.profile.proofs.Numbers.{agent-103, agent_105, by_agent}
@@ -105,30 +104,20 @@ apart_distinct (s ∷ t) a = go s (apart_distinct t (λ i j h e f p q. suc_inj (
         is-new false u = refl
 
 -- ---- refusals
--- the first byte of a reply, said by its version
-pub first_byte : (f : Bytes) → frame_head (edition_in f) (kind_number f) ≡ first_byte f
-first_byte f = go (version_in f)
-  where
-    Starts : ℕ → Option Edition → Type 0
-    Starts n o = frame_head (or_first o) (kind_number f) ≡ (if eqb n 2 then 64 else 32) + kind_number f
-
-    go : (n : ℕ) → Starts n (of_version n)
-    go n = if_cases (Starts n) (eqb n 1) (λ a. rw (eqb_eq n 1 a)) (λ a. if_cases (Starts n) (eqb n 2) (λ b. rw (eqb_eq n 2 b)) (λ b. rw b))
-
 module _ (table : Bytes) (c : Call) where
   refused_number : (n : ℕ) → eqb n 0 ≡ false → Refuses table c (refuse n table c)
   refused_number n e = record { by_number = λ _. (refl, refl, refl); by_status = λ z. absurd (true≢false (sym z ∙ e)) }
 
-  refused_status : c.tally ≡ tally_in table → (a : Answer) → Refuses table c (replied (edition_in c.request) (kind_number c.request) a table c.buffer)
+  refused_status : c.tally ≡ tally_in table → (a : Answer) → Refuses table c (replied (kind_number c.request) a table c.buffer)
   unfolding over reply_frame frame
-  refused_status tally (deny r) = record { by_number = λ z. absurd (true≢false z); by_status = λ _ _. (ap₂ (λ (x s : ℕ). over (x ∷ s ∷ 0 ∷ 0 ∷ []) c.buffer) (first_byte c.request) (sym (coded r).low), refl, sym tally) }
+  refused_status tally (deny r) = record { by_number = λ z. absurd (true≢false z); by_status = λ _ _. (ap (λ (s : ℕ). over ((32 + kind_number c.request) ∷ s ∷ 0 ∷ 0 ∷ []) c.buffer) (sym (coded r).low), refl, sym tally) }
   refused_status tally (done g u) = record { by_number = λ z. absurd (true≢false z); by_status = λ _ z. absurd (true≢false (sym (eqb_true (status_byte (done g u) % 128) 0 (omega arith)) ∙ z)) }
 
   pub refuses : Refuses table c (agent table c)
   refuses = by_agent table c (Refuses table c) refused_number (λ _ _ tally free _. obeyed tally (read_request c.request) free)
     where
-      obeyed : c.tally ≡ tally_in table → (r : Read) (free : ℕ) → Refuses table c (on_bytes (edition_in c.request) (kind_number c.request) (obey (edition_in c.request) r free (slots_of table)) table c)
-      obeyed tally (asks q) free = refused_status tally (act (edition_in c.request) free (slots_of table) q)
+      obeyed : c.tally ≡ tally_in table → (r : Read) (free : ℕ) → Refuses table c (on_bytes (kind_number c.request) (obey r free (slots_of table)) table c)
+      obeyed tally (asks q) free = refused_status tally (act free (slots_of table) q)
       obeyed tally (refused r) free = refused_status tally (deny r)
       obeyed tally no_frame free = refused_number 104 refl
 
@@ -166,8 +155,8 @@ found_is h (taken k x ∷ t) = go (found_is h t)
 pub sets_only : (start : ℕ) (t : List Slot) (h : Bytes) (n : ℕ) (u : List Slot) → start < length t → SetsFirst start t h n u → u ≡ set t (first_empty_from start t) (taken h (reserved n))
 sets_only start t h n u inside s = s.after ∙ ap (λ (i : ℕ). set t i (taken h (reserved n))) (first_only start t inside s.free s.first)
 
-pub sets_first : (ed : Edition) (start : ℕ) (t : List Slot) (h : Bytes) (n : ℕ) (g : Given) (u : List Slot) → start < length t → act ed (first_empty_from start t) t (setup h n) ≡ done g u → SetsFirst start t h n u
-sets_first ed start t h n g u inside e =
-    let d = rw e at (acts ed (first_empty_from start t) t (setup h n)) in
+pub sets_first : (start : ℕ) (t : List Slot) (h : Bytes) (n : ℕ) (g : Given) (u : List Slot) → start < length t → act (first_empty_from start t) t (setup h n) ≡ done g u → SetsFirst start t h n u
+sets_first start t h n g u inside e =
+    let d = rw e at (acts (first_empty_from start t) t (setup h n)) in
     let some : Full t → ⊥ = λ full. omega (arith, d.room, (none_empty start t inside).1 full) in
     record { free = first_empty_from start t; first = first_empty start t inside some; after = d.after }

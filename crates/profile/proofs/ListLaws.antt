@@ -10,7 +10,6 @@ use lib.Dec.{eqb, ltb, lt→ltb}
 use lib.ListN.{length, get_elem?, take, drop, length-append, length-take, length-drop, take-append-drop}
 use lib.Seq.{drop-length, take_at}
 use Rattle.profile.specs.Bytes.{Bytes, if◌then◌else◌, same, any, In}
-use Rattle.profile.specs.Edition.{Edition}
 use Rattle.profile.specs.Slot.{Right, reserved, enabled, disabled, Slot, empty, taken}
 use Rattle.profile.specs.Request.{list}
 use Rattle.profile.specs.Agent.{Given, handles, asked, listed, fitting, first_of, Answer, done, act}
@@ -224,15 +223,15 @@ module _ (limit : ℕ) (hs : List Bytes) (g : Given) (w : WithinLimit limit hs g
       first-is = rw (← as_many) (sym (take_at w.first w.left_off (length w.first) refl) ∙ ap (take (length w.first)) (sym w.parts))
 
 -- no other answer meets the laws
-pub lists_only : (ed : Edition) (free : ℕ) (t : List Slot) (limit : ℕ) (q : List Bytes) (g : Given) → ListsExactly limit q t g → act ed free t (list limit q) ≡ done g t
+pub lists_only : (free : ℕ) (t : List Slot) (limit : ℕ) (q : List Bytes) (g : Given) → ListsExactly limit q t g → act free t (list limit q) ≡ done g t
 unfolding act
-lists_only ed free t limit q g w =
+lists_only free t limit q g w =
     ap {B = Answer} (λ (x : Given). done x t)
     (ap (first_of limit) (sym (ordered_only q w.ordered)) ∙ sym (within_only limit w.all g w.limited))
 
-pub lists_exactly : (ed : Edition) (free : ℕ) (t : List Slot) (limit : ℕ) (q : List Bytes) → (g : Given) × (act ed free t (list limit q) ≡ done g t) × ListsExactly limit q t g
+pub lists_exactly : (free : ℕ) (t : List Slot) (limit : ℕ) (q : List Bytes) → (g : Given) × (act free t (list limit q) ≡ done g t) × ListsExactly limit q t g
 unfolding act
-lists_exactly ed free t limit q = (
+lists_exactly free t limit q = (
   first_of limit (listed q t),
   refl,
   record {

@@ -46,7 +46,7 @@ bytes_turn : (s : Bytes) → Bytes256 s → Before s → Bytes256 (turn_slot s)
 bytes_turn s bytes b = if_both (λ (t : Bytes). Bytes256 t) (eqb (word 27 s) 0) bytes marked
   where
     low : byte 0 s % 4 ≡ 0
-    low = low_two (byte 0 s) ∙ rw (b.no_bit, b.no_mark)
+    low = low_two (byte 0 s) ∙ rw (b.no_bit, b.spare)
 
     marked : Bytes256 ((byte 0 s + 2) ∷ drop 1 s)
     marked zero = omega (arith, bytes 0, low)

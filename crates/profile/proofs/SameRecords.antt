@@ -8,13 +8,12 @@ use native.Mathlib.Omega.{arith}
 use lib.Dec.{eqb, leb, ltb}
 use lib.ListN.{length, set, get_elem?, length-append}
 use Rattle.profile.specs.Bytes.{Bytes, In}
-use Rattle.profile.specs.Edition.{Edition}
 use Rattle.profile.specs.Slot.{Count, raises, Right, Entry, reserved, enabled, disabled, Slot, empty, taken, in_use}
 use Rattle.profile.specs.Tally.{tally_with, in_slot, tally_of}
 use Rattle.profile.specs.Frame.{Refusal}
 use Rattle.profile.specs.Request.{Request, setup, install, retrieve, rek, enable, remove, cancel, list, info}
 use Rattle.profile.specs.Agent.{Given, the_right, the_key, Answer, deny, done, Found, absent, one, find, when_found}
-use Rattle.profile.specs.Agent.{install_at, other_edition, lend_at, enable_at, remove_at, cancel_at, info_at, listed_slot, listed, act, first_empty_from}
+use Rattle.profile.specs.Agent.{install_at, lend_at, enable_at, remove_at, cancel_at, info_at, listed_slot, listed, act, first_empty_from}
 use Rattle.profile.specs.Run.{under_slots}
 use Rattle.profile.specs.Laws.{Full, FoundIs, Shown}
 use Rattle.profile.specs.Starts.{SameRecords}
@@ -165,10 +164,10 @@ module _ {t u : List Slot} (a : Like t u) where
   installs h r i j (enabled s) = both_deny
   installs h r i j (disabled s) = both_deny
 
-  lends : (k : Bytes) (held : Right → Bool) (give : Right → Given) {q : Request} (i j : ℕ) (e : Entry) → Alike q (lend_at t k held give i e) (lend_at u k held give j e)
-  lends k held give i j (reserved n) = both_deny
-  lends k held give {q} i j (enabled r) = rw (same_use k) (if_two (Alike q) (held r) both_deny λ _. if_two (Alike q) (in_use k u) both_deny (λ _. both_give))
-  lends k held give i j (disabled r) = both_deny
+  lends : (k : Bytes) (give : Right → Given) {q : Request} (i j : ℕ) (e : Entry) → Alike q (lend_at t k give i e) (lend_at u k give j e)
+  lends k give i j (reserved n) = both_deny
+  lends k give {q} i j (enabled r) = rw (same_use k) (if_two (Alike q) (in_use k u) both_deny (λ _. both_give))
+  lends k give i j (disabled r) = both_deny
 
   enables : (h : Bytes) (c : Count) {q : Request} (i j : ℕ) (e : Entry) → Alike q (enable_at t h c i e) (enable_at u h c j e)
   enables h c i j (reserved n) = both_deny
@@ -200,26 +199,25 @@ module _ {t u : List Slot} (a : Like t u) {x y : ℕ} (p : Place x t) (q : Place
       go false true e f = absurd (not_full (like_back a) (p.is_free (leb_over (length t) x e)) (q.none_free (leb_le (length u) y f)))
       go false false e f = refl
 
-  sets_up : (ed : Edition) (h : Bytes) (n : ℕ) → Alike (setup h n) (act ed x t (setup h n)) (act ed y u (setup h n))
+  sets_up : (h : Bytes) (n : ℕ) → Alike (setup h n) (act x t (setup h n)) (act y u (setup h n))
   unfolding act
-  sets_up ed h n =
+  sets_up h n =
       rw (same_use a h, same_room)
       (if_two (Alike (setup h n)) (eqb n 0) both_deny λ _.
       if_two (Alike (setup h n)) (in_use h u) both_deny λ _.
       if_two (Alike (setup h n)) (ltb 4096 n || leb (length u) y) both_deny λ _. both_give)
 
-  pub alike : (ed : Edition) (q : Request) → Alike q (act ed x t q) (act ed y u q)
+  pub alike : (q : Request) → Alike q (act x t q) (act y u q)
   unfolding act
-  alike ed (setup h n) = sets_up ed h n
-  alike ed (install h r) = found a h (install_at t h r) (install_at u h r) (installs a h r)
-  alike ed (retrieve h k) = found a h (lend_at t k (other_edition ed) the_right) (lend_at u k (other_edition ed) the_right) (lends a k (other_edition ed) the_right)
-  alike ed (rek h k) =
-      found a h (lend_at t k (λ r. false) (λ r. the_key r.key)) (lend_at u k (λ r. false) (λ r. the_key r.key)) (lends a k (λ r. false) (λ r. the_key r.key))
-  alike ed (enable h c) = found a h (enable_at t h c) (enable_at u h c) (enables a h c)
-  alike ed (remove h) = found a h (remove_at t) (remove_at u) (removes a)
-  alike ed (cancel h) = found a h (cancel_at t) (cancel_at u) (cancels a)
-  alike ed (list limit q) = both_list
-  alike ed (info h) = found a h (info_at t) (info_at u) (tells a)
+  alike (setup h n) = sets_up h n
+  alike (install h r) = found a h (install_at t h r) (install_at u h r) (installs a h r)
+  alike (retrieve h k) = found a h (lend_at t k the_right) (lend_at u k the_right) (lends a k the_right)
+  alike (rek h k) = found a h (lend_at t k (λ r. the_key r.key)) (lend_at u k (λ r. the_key r.key)) (lends a k (λ r. the_key r.key))
+  alike (enable h c) = found a h (enable_at t h c) (enable_at u h c) (enables a h c)
+  alike (remove h) = found a h (remove_at t) (remove_at u) (removes a)
+  alike (cancel h) = found a h (cancel_at t) (cancel_at u) (cancels a)
+  alike (list limit q) = both_list
+  alike (info h) = found a h (info_at t) (info_at u) (tells a)
 
 -- ---- lists
 length_listed : (q : List Bytes) (t : List Slot) → length (listed q t) ≡ sum (λ s. length (listed_slot q s)) t

@@ -1,22 +1,20 @@
 -- The worked cases of sizes hold.
-use Prim.Native.Nat.{ℕ, ◌≤◌}
-use mathlib.Core.Path.{◌≡◌, refl}
+use mathlib.Core.Path.{refl}
 use lib.Dec.{leb→le}
-use Rattle.profile.specs.Edition.{Edition, First, Second, hash_size, most_hashes}
-use Rattle.profile.specs.Slot.{FitsIn, RightFits}
+use Rattle.profile.specs.Slot.{RightFits}
 use Rattle.profile.specs.Request.{Installable}
 use Rattle.profile.specs.SizeCases.{least, least_sent, most, Hold}
 use Rattle.profile.proofs.Logic.{not_equal, not_over}
 
-least_first : FitsIn First least
-least_first =
+least_right : RightFits least
+least_right =
     record {
       room = record { key_16 = refl; hashed = record { each = tt; few = leb→le 0 8 tt }; short = leb→le 1 4096 tt };
       some_payload = leb→le 1 1 tt;
     }
 
-most_first : FitsIn First most
-most_first =
+most_right : RightFits most
+most_right =
     record {
       room =
           record {
@@ -27,13 +25,7 @@ most_first =
       some_payload = leb→le 1 4096 tt;
     }
 
-least_right : RightFits least
-least_right = record { edition = First; fits = least_first }
-
-most_right : RightFits most
-most_right = record { edition = First; fits = most_first }
-
-sent_right : Installable First least_sent
+sent_right : Installable least_sent
 sent_right =
     record {
       fits =
@@ -44,34 +36,21 @@ sent_right =
       some_hash = leb→le 1 1 tt;
     }
 
-most_installable : Installable First most
-most_installable = record { fits = most_first; some_hash = leb→le 1 8 tt }
-
--- of neither edition
-not_9 : (e : Edition) → 9 ≤ most_hashes e → ⊥
-not_9 First = not_over 9 8 (λ t. t)
-not_9 Second = not_over 9 5 (λ t. t)
-
-not_19 : (e : Edition) → ◌≡◌ {A = ℕ} 19 (hash_size e) → ⊥
-not_19 First = not_equal 19 20 (λ t. t)
-not_19 Second = not_equal 19 32 (λ t. t)
-
-not_21 : (e : Edition) → ◌≡◌ {A = ℕ} 21 (hash_size e) → ⊥
-not_21 First = not_equal 21 20 (λ t. t)
-not_21 Second = not_equal 21 32 (λ t. t)
+most_installable : Installable most
+most_installable = record { fits = most_right; some_hash = leb→le 1 8 tt }
 
 pub sizes_hold : Hold
 sizes_hold =
     record {
       least_fits = least_right;
       most_fits = most_right;
-      key_15 = λ f. not_equal 15 16 (λ t. t) f.fits.room.key_16;
-      key_17 = λ f. not_equal 17 16 (λ t. t) f.fits.room.key_16;
-      hashes_9 = λ f. not_9 f.edition f.fits.room.hashed.few;
-      hash_19 = λ f. not_19 f.edition f.fits.room.hashed.each.1.0;
-      hash_21 = λ f. not_21 f.edition f.fits.room.hashed.each.1.0;
-      payload_0 = λ f. not_over 1 0 (λ t. t) f.fits.some_payload;
-      payload_4097 = λ f. not_over 4097 4096 (λ t. t) f.fits.room.short;
+      key_15 = λ f. not_equal 15 16 (λ t. t) f.room.key_16;
+      key_17 = λ f. not_equal 17 16 (λ t. t) f.room.key_16;
+      hashes_9 = λ f. not_over 9 8 (λ t. t) f.room.hashed.few;
+      hash_19 = λ f. not_equal 19 20 (λ t. t) f.room.hashed.each.1.0;
+      hash_21 = λ f. not_equal 21 20 (λ t. t) f.room.hashed.each.1.0;
+      payload_0 = λ f. not_over 1 0 (λ t. t) f.some_payload;
+      payload_4097 = λ f. not_over 4097 4096 (λ t. t) f.room.short;
       empty_fits = tt;
       room_1 = (refl, (leb→le 1 1 tt, leb→le 1 4096 tt));
       room_4096 = (refl, (leb→le 1 4096 tt, leb→le 4096 4096 tt));
@@ -79,8 +58,8 @@ sizes_hold =
       room_4097 = λ f. not_over 4097 4096 (λ t. t) f.1.1;
       enabled_fits = (refl, least_right);
       disabled_fits = (refl, most_right);
-      enabled_0 = λ f. not_over 1 0 (λ t. t) f.1.fits.some_payload;
-      disabled_0 = λ f. not_over 1 0 (λ t. t) f.1.fits.some_payload;
+      enabled_0 = λ f. not_over 1 0 (λ t. t) f.1.some_payload;
+      disabled_0 = λ f. not_over 1 0 (λ t. t) f.1.some_payload;
       handle_9 = λ f. not_equal 9 10 (λ t. t) f.0;
       handle_11 = λ f. not_equal 11 10 (λ t. t) f.0;
       table_fits = (tt, ((refl, (leb→le 1 1 tt, leb→le 1 4096 tt)), ((refl, least_right), tt)));
@@ -97,7 +76,7 @@ sizes_hold =
       enable_fits = refl;
       remove_fits = refl;
       cancel_fits = refl;
-      list_fits_lem = most_first.room.hashed;
+      list_fits_lem = most_right.room.hashed;
       info_fits = refl;
       setup_9 = λ f. not_equal 9 10 (λ t. t) f;
       install_9 = λ f. not_equal 9 10 (λ t. t) f.0;

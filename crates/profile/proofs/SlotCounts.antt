@@ -9,7 +9,6 @@ use lib.ListN.{get_elem?, set}
 use Rattle.profile.specs.Bytes.{Bytes, Bytes256}
 use Rattle.profile.specs.Slot.{Right, recount, reserved, enabled, disabled, Slot, empty, taken, TableFits}
 use Rattle.profile.specs.Table.{slots_of, table_of, whole_slots, well_table}
-use Rattle.profile.specs.Frame.{edition_in}
 use Rattle.profile.specs.Request.{Request, setup, install, retrieve, rek, enable, remove, cancel, list, info}
 use Rattle.profile.specs.Agent.{Given, one, Call, Outcome, agent}
 use Rattle.profile.specs.History.{Exchange}
@@ -80,7 +79,7 @@ packed_low t f c = go (agent (table_of t) c) (comes t f c)
     go : {xs : List Exchange} (o : Outcome) → Comes t c xs o → (i : ℕ) → SlotLow t i (slots_of o.table)
     go o (inl d) = rw (d.after, slots_table t f) (stays_low t t refl)
     go o (inr d) =
-        let z = fitting t f (edition_in c.request) d.free d.asked (read_fits c.request d.asked d.read) d.given d.slots d.does in
+        let z = fitting t f d.free d.asked (read_fits c.request d.asked d.read) d.given d.slots d.does in
         rw (d.after, slots_table d.slots z.0) (does_low t d.free d.asked d.given d.slots d.does)
 
 pub slot_never_rises : (table : Bytes) → Bytes256 table → whole_slots table ≡ true → well_table table ≡ true → (c : Call) (i : ℕ) (earlier later : Right)

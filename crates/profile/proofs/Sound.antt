@@ -9,7 +9,6 @@ use lib.ListN.{length, replicate, length-replicate, replicate-append-replicate}
 use Rattle.profile.specs.Bytes.{Bytes, zeros}
 use Rattle.profile.specs.Slot.{Slot, empty, TableFits}
 use Rattle.profile.specs.Table.{slot_count, slots_of, table_of, whole_slots, well_table, pack}
-use Rattle.profile.specs.Frame.{edition_in}
 use Rattle.profile.specs.Agent.{Call, Outcome, agent}
 use Rattle.profile.specs.History.{Ledger, blank_ledger, Exchange, history}
 use Rattle.profile.specs.Run.{Agrees, exchange_of, exchanges, table_then, blank_table, ledger_then}
@@ -34,7 +33,7 @@ sound_comes l table s c = rw s.packed (comes s.slots s.fits c)
 
 module _ (l : Ledger) (table : Bytes) (s : Sound l table) where
   comes_fits : (c : Call) {xs : List Exchange} {o : Outcome} (d : Succeeds s.slots c xs o) → TableFits d.slots × (length d.slots ≡ length s.slots)
-  comes_fits c d = fitting s.slots s.fits (edition_in c.request) d.free d.asked (read_fits c.request d.asked d.read) d.given d.slots d.does
+  comes_fits c d = fitting s.slots s.fits d.free d.asked (read_fits c.request d.asked d.read) d.given d.slots d.does
 
   sound_end : (c : Call) (xs : List Exchange) (o : Outcome) → Comes s.slots c xs o → Sound (history l xs) o.table
   sound_end c xs o (inl i) = rw (failed_history l xs i.failed, i.after, ← s.packed) s

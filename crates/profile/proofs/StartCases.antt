@@ -9,7 +9,6 @@ use lib.Dec.{ltb}
 use lib.ListN.{length, drop, get_elem?}
 use lib.Seq.{drop_at}
 use Rattle.profile.specs.Bytes.{Bytes, if◌then◌else◌, byte, word, zeros, same, over, joined, In, pieces, Each}
-use Rattle.profile.specs.Edition.{First}
 use Rattle.profile.specs.Slot.{Entry, reserved, enabled, disabled, Slot, empty, taken}
 use Rattle.profile.specs.Table.{unpack, image, pack, well_rest, well_slot, slot_bytes, slots_of, table_of, whole_slots, well_table}
 use Rattle.profile.specs.Tally.{Tally, tally_of}
@@ -39,12 +38,12 @@ kind_read (refused r) = 0
 kind_read no_frame = 0
 
 -- behind a list reply the buffer's bytes stay
-behind : {q : List Bytes} {t u : List Slot} {buffer reply other : Bytes} → SameList First q t u buffer reply other → drop (4 + word 2 other) other ≡ drop (4 + word 2 other) buffer
+behind : {q : List Bytes} {t u : List Slot} {buffer reply other : Bytes} → SameList q t u buffer reply other → drop (4 + word 2 other) other ≡ drop (4 + word 2 other) buffer
 unfolding over frame
 behind {buffer = buffer} s = rw s.other_replies (stays (4 + word 2 (over sent buffer)) (omega arith))
   where
     sent : Bytes
-    sent = frame First 8 0 ((if s.more then 128 else 0) ∷ joined s.other_listed)
+    sent = frame 8 0 ((if s.more then 128 else 0) ∷ joined s.other_listed)
 
     stays : (n : ℕ) → length sent ≡ n → drop n (over sent buffer) ≡ drop n buffer
     stays n e = drop_at sent (drop (length sent) buffer) n e ∙ ap (λ (m : ℕ). drop m buffer) e
@@ -74,7 +73,7 @@ each_in : (hs : List Bytes) → ((h : Bytes) → In h hs → length h ≡ 10) �
 each_in [] f = tt
 each_in (k ∷ hs) f = (f k (0, refl), each_in hs (λ h m. f h (suc m.0, m.1)))
 
-abbrev list_back : {q : List Bytes} {t u : List Slot} {buffer reply other : Bytes} → SameList First q t u buffer reply other → SameList First q u t buffer other reply
+abbrev list_back : {q : List Bytes} {t u : List Slot} {buffer reply other : Bytes} → SameList q t u buffer reply other → SameList q u t buffer other reply
 list_back s =
     record {
       more = s.more;
@@ -88,7 +87,7 @@ list_back s =
       same_handles = λ e h. ((s.same_handles e h).1, (s.same_handles e h).0);
     }
 
-module _ {q : List Bytes} {t u : List Slot} {reply other : Bytes} (s : SameList First q t u [] reply other) where
+module _ {q : List Bytes} {t u : List Slot} {reply other : Bytes} (s : SameList q t u [] reply other) where
   more_is : byte 4 reply ≡ (if s.more then 128 else 0)
   unfolding over frame
   more_is = ap (byte 4) s.replies

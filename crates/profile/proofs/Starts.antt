@@ -10,11 +10,10 @@ use lib.Dec.{eqb, leb, ltb}
 use lib.ListN.{length, take, get_elem?, length-take}
 use lib.Seq.{take_all}
 use Rattle.profile.specs.Bytes.{Bytes, if◌then◌else◌, In, over, joined}
-use Rattle.profile.specs.Edition.{Edition}
 use Rattle.profile.specs.Slot.{Slot}
 use Rattle.profile.specs.Table.{slot_count, slots_of, whole_slots, well_table}
 use Rattle.profile.specs.Tally.{Tally, tally_in, same_tally}
-use Rattle.profile.specs.Frame.{frame, edition_in, kind_number, status_in}
+use Rattle.profile.specs.Frame.{frame, kind_number, status_in}
 use Rattle.profile.specs.Request.{Request, setup, install, retrieve, rek, enable, remove, cancel, list, info, Read, asks, refused, no_frame, read_request}
 use Rattle.profile.specs.Agent.{Answer, deny, done, listed, fitting, act, first_empty_from, reply_frame, Call, Outcome, refuse, replied, Obeyed, stopped, answered, obey, on_bytes, agent}
 use Rattle.profile.specs.History.{Ledger, blank_ledger, Exchange, history}
@@ -51,34 +50,34 @@ other_tests {table} {other} {c} {d} n whole well tally o =
     }
 
 -- ---- only a setup looks at the slot that is free for it
-pub slot_unused : (ed : Edition) (x y : ℕ) (t : List Slot) (q : Request) → ((h : Bytes) (n : ℕ) → q ≡ setup h n → ⊥) → act ed x t q ≡ act ed y t q
+pub slot_unused : (x y : ℕ) (t : List Slot) (q : Request) → ((h : Bytes) (n : ℕ) → q ≡ setup h n → ⊥) → act x t q ≡ act y t q
 unfolding act
-slot_unused ed x y t (setup h n) no-setup = absurd (no-setup h n refl)
-slot_unused ed x y t (install h r) no-setup = refl
-slot_unused ed x y t (retrieve h k) no-setup = refl
-slot_unused ed x y t (rek h k) no-setup = refl
-slot_unused ed x y t (enable h c) no-setup = refl
-slot_unused ed x y t (remove h) no-setup = refl
-slot_unused ed x y t (cancel h) no-setup = refl
-slot_unused ed x y t (list limit q) no-setup = refl
-slot_unused ed x y t (info h) no-setup = refl
+slot_unused x y t (setup h n) no-setup = absurd (no-setup h n refl)
+slot_unused x y t (install h r) no-setup = refl
+slot_unused x y t (retrieve h k) no-setup = refl
+slot_unused x y t (rek h k) no-setup = refl
+slot_unused x y t (enable h c) no-setup = refl
+slot_unused x y t (remove h) no-setup = refl
+slot_unused x y t (cancel h) no-setup = refl
+slot_unused x y t (list limit q) no-setup = refl
+slot_unused x y t (info h) no-setup = refl
 
-only_setup : (ed : Edition) (x y : ℕ) (t : List Slot) (r : Read) → ((h : Bytes) (n : ℕ) → r ≡ asks (setup h n) → ⊥) → obey ed r x t ≡ obey ed r y t
-only_setup ed x y t (asks q) no-setup = ap answered (slot_unused ed x y t q (λ h n e. no-setup h n (ap asks e)))
-only_setup ed x y t (refused r) no-setup = refl
-only_setup ed x y t no_frame no-setup = refl
+only_setup : (x y : ℕ) (t : List Slot) (r : Read) → ((h : Bytes) (n : ℕ) → r ≡ asks (setup h n) → ⊥) → obey r x t ≡ obey r y t
+only_setup x y t (asks q) no-setup = ap answered (slot_unused x y t q (λ h n e. no-setup h n (ap asks e)))
+only_setup x y t (refused r) no-setup = refl
+only_setup x y t no_frame no-setup = refl
 
 -- what is done with a frame depends on the call by what is lent with it
-same_lent : (ed : Edition) (kind : ℕ) (x : Obeyed) (table : Bytes) (c d : Call) → c.tally ≡ d.tally → c.buffer ≡ d.buffer → on_bytes ed kind x table c ≡ on_bytes ed kind x table d
-same_lent ed kind (stopped n) table c d e f = ap₂ {C = Outcome} (λ (b : Bytes) (y : Tally). record { number = n; reply = b; table = table; tally = y }) f e
-same_lent ed kind (answered a) table c d e f = ap (replied ed kind a table) f
+same_lent : (kind : ℕ) (x : Obeyed) (table : Bytes) (c d : Call) → c.tally ≡ d.tally → c.buffer ≡ d.buffer → on_bytes kind x table c ≡ on_bytes kind x table d
+same_lent kind (stopped n) table c d e f = ap₂ {C = Outcome} (λ (b : Bytes) (y : Tally). record { number = n; reply = b; table = table; tally = y }) f e
+same_lent kind (answered a) table c d e f = ap (replied kind a table) f
 
 pub only_setups : (table : Bytes) (c d : Call) → OtherStart (slot_count table) c d → ((h : Bytes) (n : ℕ) → read_request c.request ≡ asks (setup h n) → ⊥) → agent table c ≡ agent table d
 only_setups table c d o no-setup =
-    by_agents (other_tests refl refl refl refl o) (λ (x y : Outcome). x ≡ y) (λ n _. same_lent (edition_in c.request) 0 (stopped n) table c d o.tallies_agree o.same_buffer) λ _ _ _ _ _.
-    same_lent (edition_in c.request) (kind_number c.request) (obey (edition_in c.request) (read_request c.request) (free c) (slots_of table)) table c d o.tallies_agree o.same_buffer
-    ∙ ap (λ (x : Obeyed). on_bytes (edition_in c.request) (kind_number c.request) x table d) (only_setup (edition_in c.request) (free c) (free d) (slots_of table) (read_request c.request) no-setup)
-    ∙ ap (λ (f : Bytes). on_bytes (edition_in f) (kind_number f) (obey (edition_in f) (read_request f) (free d) (slots_of table)) table d) o.same_request
+    by_agents (other_tests refl refl refl refl o) (λ (x y : Outcome). x ≡ y) (λ n _. same_lent 0 (stopped n) table c d o.tallies_agree o.same_buffer) λ _ _ _ _ _.
+    same_lent (kind_number c.request) (obey (read_request c.request) (free c) (slots_of table)) table c d o.tallies_agree o.same_buffer
+    ∙ ap (λ (x : Obeyed). on_bytes (kind_number c.request) x table d) (only_setup (free c) (free d) (slots_of table) (read_request c.request) no-setup)
+    ∙ ap (λ (f : Bytes). on_bytes (kind_number f) (obey (read_request f) (free d) (slots_of table)) table d) o.same_request
   where
     free : Call → ℕ
     free e = first_empty_from e.start (slots_of table)
@@ -97,18 +96,18 @@ same_exchange (asks q) s = ap₂ {C = List Exchange} (λ (n m : ℕ). if eqb n 0
 same_exchange (refused r) s = refl
 same_exchange no_frame s = refl
 
-module _ (ed : Edition) (kind : ℕ) (table other : Bytes) (c d : Call) (e : c.buffer ≡ d.buffer) where
-  same_answer : {q : Request} {x y : Answer} → Alike q x y → SameOutcome (asks q) (replied ed kind x table c.buffer) (replied ed kind y other d.buffer)
+module _ (kind : ℕ) (table other : Bytes) (c d : Call) (e : c.buffer ≡ d.buffer) where
+  same_answer : {q : Request} {x y : Answer} → Alike q x y → SameOutcome (asks q) (replied kind x table c.buffer) (replied kind y other d.buffer)
   unfolding reply_frame
-  same_answer (both_deny {r = r}) = same_reply refl (ap (over (reply_frame ed kind (deny r))) e)
-  same_answer (both_give {g = g} {t = t}) = same_reply refl (ap (over (reply_frame ed kind (done g t))) e)
+  same_answer (both_deny {r = r}) = same_reply refl (ap (over (reply_frame kind (deny r))) e)
+  same_answer (both_give {g = g} {t = t}) = same_reply refl (ap (over (reply_frame kind (done g t))) e)
   same_answer (both_list {g = g} {k = k} {t = t} {u = u}) =
-      record { number = refl; status = status_over ed kind (done g t) c.buffer ∙ sym (status_over ed kind (done k u) d.buffer); reply = λ no-list. absurd (no-list _ _ refl) }
+      record { number = refl; status = status_over kind (done g t) c.buffer ∙ sym (status_over kind (done k u) d.buffer); reply = λ no-list. absurd (no-list _ _ refl) }
 
   same_obeyed : {t u : List Slot} → Like t u → {x y : ℕ} → Place x t → Place y u → (r : Read)
-      → SameOutcome r (on_bytes ed kind (obey ed r x t) table c) (on_bytes ed kind (obey ed r y u) other d)
-  same_obeyed a p q (asks z) = same_answer (alike a p q ed z)
-  same_obeyed a p q (refused r) = same_reply refl (ap (over (reply_frame ed kind (deny r))) e)
+      → SameOutcome r (on_bytes kind (obey r x t) table c) (on_bytes kind (obey r y u) other d)
+  same_obeyed a p q (asks z) = same_answer (alike a p q z)
+  same_obeyed a p q (refused r) = same_reply refl (ap (over (reply_frame kind (deny r))) e)
   same_obeyed a p q no_frame = same_reply refl e
 
 -- ---- two replies to a list query
@@ -121,7 +120,7 @@ in_take n hs h m = (m.0, at n hs m.0 m.1)
     at (suc n) (k ∷ hs) zero p = p
     at (suc n) (k ∷ hs) (suc i) p = at n hs i p
 
-module _ (ed : Edition) {t u : List Slot} (a : Like t u) (limit : ℕ) (q : List Bytes) (buffer : Bytes) where
+module _ {t u : List Slot} (a : Like t u) (limit : ℕ) (q : List Bytes) (buffer : Bytes) where
   abbrev many : ℕ
   many = length (listed q t)
 
@@ -133,7 +132,7 @@ module _ (ed : Edition) {t u : List Slot} (a : Like t u) (limit : ℕ) (q : List
       let h = ltb_over few many e in
       (take_all few (listed q t) h, take_all few (listed q u) (omega (arith, h, as_many_listed a q)))
 
-  same_list : (x y : ℕ) → SameList ed q t u buffer (over (reply_frame ed 8 (act ed x t (list limit q))) buffer) (over (reply_frame ed 8 (act ed y u (list limit q))) buffer)
+  same_list : (x y : ℕ) → SameList q t u buffer (over (reply_frame 8 (act x t (list limit q))) buffer) (over (reply_frame 8 (act y u (list limit q))) buffer)
   unfolding act reply_frame
   same_list x y =
       record {
@@ -142,7 +141,7 @@ module _ (ed : Edition) {t u : List Slot} (a : Like t u) (limit : ℕ) (q : List
         other_listed = take few (listed q u);
         replies = refl;
         other_replies =
-            ap (λ (n : ℕ). over (frame ed 8 0 ((if ltb (fitting limit n) n then 128 else 0) ∷ joined (take (fitting limit n) (listed q u)))) buffer) (sym (as_many_listed a q));
+            ap (λ (n : ℕ). over (frame 8 0 ((if ltb (fitting limit n) n then 128 else 0) ∷ joined (take (fitting limit n) (listed q u)))) buffer) (sym (as_many_listed a q));
         as_many = length-take few (listed q t) ∙ ap (min few) (as_many_listed a q) ∙ sym (length-take few (listed q u));
         shown = λ h m. shown_too a q h (in_take few (listed q t) h m);
         other_shown = λ h m. shown_too (like_back a) q h (in_take few (listed q u) h m);
@@ -195,19 +194,19 @@ module _ {l : Ledger} {table other : Bytes} (b : Beside l table other) where
     same_outcome : SameOutcome (read_request c.request) (agent table c) (agent other d)
     same_outcome =
         by_agents tested (SameOutcome (read_request c.request)) (λ _ _. same_reply refl o.same_buffer) λ _ _ inside _ _.
-        subst (λ (f : Bytes). SameOutcome (read_request c.request) (obeyed table c) (on_bytes (edition_in f) (kind_number f) (obey (edition_in f) (read_request f) (first_empty_from d.start (slots_of other)) (slots_of other)) other d)) o.same_request
-        (same_obeyed (edition_in c.request) (kind_number c.request) table other c d o.same_buffer like (place inside) (other_place inside) (read_request c.request))
+        subst (λ (f : Bytes). SameOutcome (read_request c.request) (obeyed table c) (on_bytes (kind_number f) (obey (read_request f) (first_empty_from d.start (slots_of other)) (slots_of other)) other d)) o.same_request
+        (same_obeyed (kind_number c.request) table other c d o.same_buffer like (place inside) (other_place inside) (read_request c.request))
 
     same_told : exchange_of table c ≡ exchange_of other d
     same_told = same_exchange (read_request c.request) same_outcome ∙ ap (λ (f : Bytes). exchange (read_request f) (agent other d)) o.same_request
 
     lists : (limit : ℕ) (q : List Bytes) → read_request c.request ≡ asks (list limit q) → eqb (agent table c).number 0 ≡ true
-        → SameList (edition_in c.request) q (slots_of table) (slots_of other) c.buffer (agent table c).reply (agent other d).reply
+        → SameList q (slots_of table) (slots_of other) c.buffer (agent table c).reply (agent other d).reply
     lists limit q e =
-        by_agents tested (λ (x y : Outcome). eqb x.number 0 ≡ true → SameList (edition_in c.request) q (slots_of table) (slots_of other) c.buffer x.reply y.reply)
+        by_agents tested (λ (x y : Outcome). eqb x.number 0 ≡ true → SameList q (slots_of table) (slots_of other) c.buffer x.reply y.reply)
         (λ n f z. absurd (true≢false (sym z ∙ f))) λ _ _ _ _ _ _.
         rw (← o.same_request, ← o.same_buffer, e, ← kind)
-        (same_list (edition_in c.request) like limit q c.buffer (first_empty_from c.start (slots_of table)) (first_empty_from d.start (slots_of other)))
+        (same_list like limit q c.buffer (first_empty_from c.start (slots_of table)) (first_empty_from d.start (slots_of other)))
       where
         kind : ◌≡◌ {A = ℕ} 8 (kind_number c.request)
         kind = reads_number c.request (list limit q) (rw e at (reads c.request))

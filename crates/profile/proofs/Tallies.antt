@@ -13,7 +13,7 @@ use Rattle.profile.specs.Slot.{reserved, enabled, disabled, Slot, empty, taken}
 use Rattle.profile.specs.Table.{place_of, handle_of, length_of, right_of, unpack, slot_bytes, slots_of, table_of, slot_count, whole_slots, well_table}
 use Rattle.profile.specs.Turning.{right_before, unpack_before, turn}
 use Rattle.profile.specs.Tally.{Tally, tally_with, in_slot, plus, tally_of, tally_in, same_tally}
-use Rattle.profile.specs.Frame.{edition_in, kind_number}
+use Rattle.profile.specs.Frame.{kind_number}
 use Rattle.profile.specs.Request.{Read, asks, refused, no_frame, read_request}
 use Rattle.profile.specs.Agent.{first_empty_from, Call, Outcome, refuse, obey, on_bytes, agent}
 use Rattle.profile.specs.Run.{blank_table, numbers_then}
@@ -40,7 +40,7 @@ module _ (table : Bytes) (c : Call) where
       (λ _ _ _ free _. obeyed (read_request c.request) free)
     where
       done : Read → ℕ → Outcome
-      done r free = on_bytes (edition_in c.request) (kind_number c.request) (obey (edition_in c.request) r free (slots_of table)) table c
+      done r free = on_bytes (kind_number c.request) (obey r free (slots_of table)) table c
 
       obeyed : (r : Read) (free : ℕ) → eqb (done r free).number 0 ≡ true → (done r free).tally ≡ tally_in (done r free).table
       obeyed (asks q) free z = refl
@@ -54,7 +54,7 @@ module _ (table : Bytes) (c : Call) where
       (λ _ _ tally free _. obeyed tally (read_request c.request) free)
     where
       done : Read → ℕ → Outcome
-      done r free = on_bytes (edition_in c.request) (kind_number c.request) (obey (edition_in c.request) r free (slots_of table)) table c
+      done r free = on_bytes (kind_number c.request) (obey r free (slots_of table)) table c
 
       obeyed : c.tally ≡ tally_in table → (r : Read) (free : ℕ) → (done r free).table ≡ table → (done r free).tally ≡ c.tally
       obeyed tally (asks q) free s = ap tally_in s ∙ sym tally
@@ -76,7 +76,7 @@ module _ (table : Bytes) (c : Call) where
         No106 : Outcome → Type 0
         No106 o = eqb o.number 106 ≡ false
 
-        obeyed : (r : Read) → No106 (on_bytes (edition_in c.request) (kind_number c.request) (obey (edition_in c.request) r (first_empty_from c.start (slots_of table)) (slots_of table)) table c)
+        obeyed : (r : Read) → No106 (on_bytes (kind_number c.request) (obey r (first_empty_from c.start (slots_of table)) (slots_of table)) table c)
         obeyed (asks q) = refl
         obeyed (refused r) = refl
         obeyed no_frame = refl
@@ -87,7 +87,7 @@ module _ (table : Bytes) (c : Call) where
         (λ _ _ _ free _. obeyed (read_request c.request) free)
       where
         done : Read → ℕ → Outcome
-        done r free = on_bytes (edition_in c.request) (kind_number c.request) (obey (edition_in c.request) r free (slots_of table)) table c
+        done r free = on_bytes (kind_number c.request) (obey r free (slots_of table)) table c
 
         obeyed : (r : Read) (free : ℕ) → (done r free).tally ≡ tally_in (done r free).table
         obeyed (asks q) free = refl

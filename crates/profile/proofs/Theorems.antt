@@ -18,7 +18,7 @@ use Rattle.profile.proofs.OneSlot.{one_slot, other_slots}
 use Rattle.profile.proofs.Lookup.{under_once}
 use Rattle.profile.proofs.FirstEmpty.{first_empty, first_only, none_empty, none_alike, from_0}
 use Rattle.profile.proofs.Frames.{reads}
-use Rattle.profile.proofs.Requests.{read_fits, read_write, edition_back}
+use Rattle.profile.proofs.Requests.{read_fits, read_write}
 use Rattle.profile.proofs.Writer.{written_reads}
 use Rattle.profile.proofs.WrittenAgain.{written_again}
 use Rattle.profile.proofs.Replies.{replies_read}
@@ -35,8 +35,6 @@ use Rattle.profile.proofs.Cases.{cases_hold}
 use Rattle.profile.proofs.WriterCases.{writer_hold}
 use Rattle.profile.proofs.ReplyCases.{replies_hold}
 use Rattle.profile.proofs.ListingCases.{listings_hold}
-use Rattle.profile.proofs.EditionCases.{editions_hold}
-use Rattle.profile.proofs.Needing.{answered_in, own_goes, other_goes, refused_10, only_10, own_length}
 use Rattle.profile.proofs.HistoryCases.{histories_hold}
 use Rattle.profile.proofs.SizeCases.{sizes_hold}
 use Rattle.profile.proofs.RisingCases.{rises_hold}
@@ -86,7 +84,7 @@ theorems =
       one_slot = λ table report i s whole well room long. one_slot table i s whole long well report room;
       other_slots = λ table report i s whole well room long. other_slots table i s whole long well report room;
       read_fits = λ f q e. read_fits f q (rw e at (reads f));
-      read_write = λ e q f. (read_write e q f, edition_back e q);
+      read_write = read_write;
       written_reads = written_reads;
       written_again = written_again;
       replies_read = replies_read;
@@ -127,12 +125,6 @@ theorems =
       lists_exactly = lists_exactly;
       lists_only = lists_only;
       raise_means = raise_means;
-      answered_in = answered_in;
-      own_goes = own_goes;
-      other_goes = other_goes;
-      refused_10 = λ e free t d i h r there n k. refused_10 e free t d i h r there n k;
-      only_10 = only_10;
-      own_length = own_length;
       refused_9 = refused_9;
       only_9 = only_9;
       returned_anyway = returned_anyway;
@@ -153,7 +145,6 @@ theorems =
       writer_hold = writer_hold;
       replies_hold = replies_hold;
       listings_hold = listings_hold;
-      editions_hold = editions_hold;
       histories_hold = histories_hold;
       rises_hold = rises_hold;
       demands_hold = demands_hold;

@@ -12,7 +12,7 @@ use Rattle.profile.specs.Bytes.{Bytes, Bytes256}
 use Rattle.profile.specs.Slot.{Count, NoneKept, Kept, reserved, enabled, disabled, Slot, taken}
 use Rattle.profile.specs.Table.{slot_count, slots_of, whole_slots, well_table}
 use Rattle.profile.specs.Tally.{tally_in, same_tally}
-use Rattle.profile.specs.Frame.{edition_in, kind_number, status_in}
+use Rattle.profile.specs.Frame.{kind_number, status_in}
 use Rattle.profile.specs.Request.{Request, setup, install, retrieve, rek, enable, remove, cancel, list, info, Read, asks, refused, no_frame, read_request}
 use Rattle.profile.specs.Agent.{Found, absent, one, find, first_empty_from, Call, Outcome, refuse, obey, on_bytes, agent}
 use Rattle.profile.specs.History.{Exchange}
@@ -117,7 +117,7 @@ number_most table c =
     (if_both NotOver (not (well_table table)) (omega arith)
     (if_both NotOver (not (same_tally c.tally (tally_in table))) (omega arith) (obeys (read_request c.request))))))
   where
-    obeys : (r : Read) → NotOver (on_bytes (edition_in c.request) (kind_number c.request) (obey (edition_in c.request) r (first_empty_from c.start (slots_of table)) (slots_of table)) table c)
+    obeys : (r : Read) → NotOver (on_bytes (kind_number c.request) (obey r (first_empty_from c.start (slots_of table)) (slots_of table)) table c)
     obeys (asks q) = omega arith
     obeys (refused r) = omega arith
     obeys no_frame = omega arith

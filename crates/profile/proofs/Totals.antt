@@ -11,7 +11,7 @@ use Rattle.profile.specs.Bytes.{Bytes, Bytes256, if◌then◌else◌, same, join
 use Rattle.profile.specs.Sizes.{slot_size}
 use Rattle.profile.specs.Slot.{Count, Entry, reserved, enabled, disabled, Slot}
 use Rattle.profile.specs.Table.{slots_of, whole_slots, well_table}
-use Rattle.profile.specs.Frame.{edition_in, status_in}
+use Rattle.profile.specs.Frame.{status_in}
 use Rattle.profile.specs.Request.{Request, setup, install, retrieve, rek, enable, remove, cancel, list, info, Read, asks, refused, no_frame, read_request}
 use Rattle.profile.specs.Agent.{Found, absent, one, find, Call, Outcome, refuse, agent}
 use Rattle.profile.specs.History.{Opened, open_setup, Owned, for_use, lent, gone, Ledger, blank_ledger, Exchange, told, history}
@@ -140,7 +140,7 @@ call_small l table s fit c b = go (agent table c) (sound_comes l table s c)
     go : {xs : List Exchange} (o : Outcome) → Comes s.slots c xs o → CountsFit (slots_of o.table)
     go o (inl i) = rw (i.after, ← s.packed) fit
     go o (inr d) =
-        let z = fitting s.slots s.fits (edition_in c.request) d.free d.asked (read_fits c.request d.asked d.read) d.given d.slots d.does in
+        let z = fitting s.slots s.fits d.free d.asked (read_fits c.request d.asked d.read) d.given d.slots d.does in
         rw (d.after, slots_table d.slots z.0)
         (does_small s.slots (rw here at fit) d.free d.asked (request_small c.request d.asked b d.read) d.given d.slots d.does)
 

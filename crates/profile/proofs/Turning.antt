@@ -8,9 +8,9 @@ use lib.Dec.{eqb}
 use lib.ListN.{length, get_or, take, drop, length-map, length-drop, length-take}
 use lib.Seq.{drop-drop, get_or-drop, get_or-take}
 use Rattle.profile.specs.Bytes.{Bytes, if◌then◌else◌, byte, part, word, same, all_zero, from1to, all, any, joined, pieces, Each}
-use Rattle.profile.specs.Edition.{hash_size, of_mark}
+use Rattle.profile.specs.Sizes.{hash_size}
 use Rattle.profile.specs.Slot.{Count, NoneKept, Kept, kept_bit, count_holds, count_with, Right, Entry, reserved, enabled, disabled, Slot, empty, taken, in_use, distinct}
-use Rattle.profile.specs.Table.{place_of, hash_count_of, kept_of, long_of, edition_at, count_of, right_of, unpack, well_count, well_rest, well_slot, slot_count, slot_bytes, slots_of, whole_slots, well_table}
+use Rattle.profile.specs.Table.{place_of, hash_count_of, kept_of, spare_of, count_of, right_of, unpack, well_count, well_rest, well_slot, slot_count, slot_bytes, slots_of, whole_slots, well_table}
 use Rattle.profile.specs.Turning.{well_before, well_table_before, count_before, right_before, unpack_before, keeps_count, turn_slot, Turned, turn}
 use Rattle.profile.specs.Theorems.{Turns}
 use Rattle.profile.proofs.Logic.{both, and_parts, not_false, eqb_eq, eqb_true, if_else, if_cases}
@@ -22,15 +22,15 @@ use Rattle.profile.proofs.Unpack.{WellRest, well_rest_lem, WellReserved, well_re
 -- ---- the tests of a slot by the rules before
 pub record Before (s : Bytes) : Type 0 where
   pub no_bit : kept_of s ≡ 0
-  pub no_mark : long_of s ≡ 0
+  pub spare : spare_of s ≡ 0
   pub rest : well_rest s ≡ true
 
 pub before : (s : Bytes) → well_before s ≡ true → Before s
 unfolding well_before
 before s w =
     let t1 = and_parts _ (well_rest s) w in
-    let t2 = and_parts (eqb (kept_of s) 0) (eqb (long_of s) 0) t1.0 in
-    record { no_bit = eqb_eq (kept_of s) 0 t2.0; no_mark = eqb_eq (long_of s) 0 t2.1; rest = t1.1 }
+    let t2 = and_parts (eqb (kept_of s) 0) (eqb (spare_of s) 0) t1.0 in
+    record { no_bit = eqb_eq (kept_of s) 0 t2.0; spare = eqb_eq (spare_of s) 0 t2.1; rest = t1.1 }
 
 -- ---- two slots that differ in their first byte alone
 module _ (s t : Bytes) (tail : drop 1 t ≡ drop 1 s) where
@@ -43,28 +43,28 @@ module _ (s t : Bytes) (tail : drop 1 t ≡ drop 1 s) where
   gap_same : byte 191 t ≡ byte 191 s
   gap_same = sym (get_or-drop 191 t 0 0) ∙ ap (λ (d : Bytes). get_or d 0 0) (drop_same 190) ∙ get_or-drop 191 s 0 0
 
-  -- and whose places, hash counts and marks are the same, with a right in both
-  module _ (p : ℕ) (at-s : place_of s ≡ suc (suc p)) (at-t : place_of t ≡ suc (suc p)) (hashes : hash_count_of t ≡ hash_count_of s) (marks : long_of t ≡ long_of s) where
-    after_hashes : (m : ℕ) → drop (31 + m) t ≡ drop (31 + m) s
-    after_hashes m = let e : 1 + (30 + m) ≡ 31 + m = omega arith in rw e at (drop_same (30 + m))
+  -- and whose places and hash counts are the same, with a right in both
+  module _ (p : ℕ) (at-s : place_of s ≡ suc (suc p)) (at-t : place_of t ≡ suc (suc p)) (hashes : hash_count_of t ≡ hash_count_of s) where
+    after_hashes : drop (31 + 20 * hash_count_of s) t ≡ drop (31 + 20 * hash_count_of s) s
+    after_hashes = let e : 1 + (30 + 20 * hash_count_of s) ≡ 31 + 20 * hash_count_of s = omega arith in rw e at (drop_same (30 + 20 * hash_count_of s))
 
     after_payload : drop (192 + word 29 s) t ≡ drop (192 + word 29 s) s
     after_payload = let e : 1 + (191 + word 29 s) ≡ 192 + word 29 s = omega arith in rw e at (drop_same (191 + word 29 s))
 
     rest_same : well_rest t ≡ well_rest s
     unfolding well_rest
-    rest_same = rw (gap_same, marks, hashes, after_hashes (hash_size (edition_at s) * hash_count_of s), word_same 28, after_payload, at-t, at-s)
+    rest_same = rw (gap_same, hashes, after_hashes, word_same 28, after_payload, at-t, at-s)
 
 -- ---- a slot that was well formed, turned
 module _ (s : Bytes) (b : Before s) where
   low_bits : byte 0 s % 4 ≡ 0
-  low_bits = low_two (byte 0 s) ∙ rw (b.no_bit, b.no_mark)
+  low_bits = low_two (byte 0 s) ∙ rw (b.no_bit, b.spare)
 
   -- without a count it stays as it is
   module _ (none : word 27 s ≡ 0) where
     well_none : well_slot s ≡ true
     unfolding well_slot
-    well_none = both (go (place_of s) refl) b.rest
+    well_none = both (both (eqb_true (spare_of s) 0 b.spare) (go (place_of s) refl)) b.rest
       where
         go : (p : ℕ) → place_of s ≡ p → well_count s ≡ true
         go zero at = rw (at, b.no_bit)
@@ -112,14 +112,14 @@ module _ (s : Bytes) (b : Before s) where
     kept_1 : kept_of t ≡ 1
     kept_1 = omega (arith, low_bits)
 
-    mark_same : long_of t ≡ long_of s
-    mark_same = omega (arith, low_bits)
+    spare_0 : spare_of t ≡ 0
+    spare_0 = omega (arith, low_bits)
 
     well_kept : well_slot t ≡ true
     unfolding well_slot
     well_kept =
-        both {a = well_count t} (rw (place_same, placed.1, kept_1))
-        (rest_same s t refl placed.0 placed.1 (place_same ∙ placed.1) hashes_same mark_same ∙ b.rest)
+        both (both (eqb_true (spare_of t) 0 spare_0) (rw (place_same, placed.1, kept_1)))
+        (rest_same s t refl placed.0 placed.1 (place_same ∙ placed.1) hashes_same ∙ b.rest)
 
     right_kept : right_of t ≡ right_before s
     right_kept = λ i. record { key = key i; count = count i; hashes = hashes i; payload = payload i }
@@ -130,8 +130,8 @@ module _ (s : Bytes) (b : Before s) where
         count : count_of t ≡ count_before s
         count = rw (kept_1, word_same s t refl 26, some_count)
 
-        hashes : (right_of t).hashes ≡ (right_of s).hashes
-        hashes = λ i. pieces (hash_size (of_mark (mark_same i))) (hashes_same i) (drop_same s t refl 30 i)
+        hashes : pieces hash_size (hash_count_of t) (drop 31 t) ≡ pieces hash_size (hash_count_of s) (drop 31 s)
+        hashes = ap₂ (λ (n : ℕ) (d : Bytes). pieces hash_size n d) hashes_same (drop_same s t refl 30)
 
         payload : part 192 (word 29 t) t ≡ part 192 (word 29 s) s
         payload = ap₂ (λ (n : ℕ) (d : Bytes). take n d) (word_same s t refl 28) (drop_same s t refl 191)

@@ -8,10 +8,8 @@ use mathlib.Core.Bool.{Bool, true}
 use native.Mathlib.Omega.{arith}
 use lib.ListN.{length, get_elem?, set, replicate}
 use Rattle.profile.specs.Bytes.{Bytes, In, Bytes256}
-use Rattle.profile.specs.Edition.{Edition}
 use Rattle.profile.specs.Slot.{Count, Right, recount, Entry, reserved, enabled, disabled, Slot, empty, taken, in_use, distinct, TableFits}
 use Rattle.profile.specs.Table.{slots_of, table_of, whole_slots, well_table}
-use Rattle.profile.specs.Frame.{edition_in}
 use Rattle.profile.specs.Request.{Request, setup, install, retrieve, rek, enable, remove, cancel, list, info, RequestFits}
 use Rattle.profile.specs.Agent.{Given, handles, Answer, done, Found, absent, one, find, act, Call, Outcome, agent}
 use Rattle.profile.specs.History.{Exchange}
@@ -32,9 +30,9 @@ use Rattle.profile.proofs.CountOrder.{raise_means}
 
 -- ---- PROFILE 2.9
 -- the list without a limit, of all or by a hash, has the handle of an enabled record that is asked for
-listed : (ed : Edition) (free : ℕ) (t : List Slot) (q : List Bytes) (i : ℕ) (h : Bytes) (r : Right) → get_elem? t i ≡ some (taken h (enabled r)) → AskedFor q r → Listed ed free t q h
-listed ed free t q i h r e a =
-    let l = lists_exactly ed free t 0 q in
+listed : (free : ℕ) (t : List Slot) (q : List Bytes) (i : ℕ) (h : Bytes) (r : Right) → get_elem? t i ≡ some (taken h (enabled r)) → AskedFor q r → Listed free t q h
+listed free t q i h r e a =
+    let l = lists_exactly free t 0 q in
     let w = l.2.limited in
     let whole : l.2.all ≡ w.first = w.parts ∙ ap (λ (x : List Bytes). w.first ++ x) (w.unlimited refl) ∙ append-nil w.first in
     record {
@@ -61,20 +59,20 @@ find_at t d i h e p = go (find h t) (found_is h t)
         let n : j ≡ i = apart t d j i h g e f p in
         rw n (ap {B = Found} (one i) (same_entry (sym (rw n at f) ∙ p)))
 
-module _ (ed : Edition) (free : ℕ) (t : List Slot) (d : distinct t ≡ true) (i : ℕ) (h : Bytes) (r : Right) where
-  pub in_use_lem : get_elem? t i ≡ some (taken h (enabled r)) → OpenToUse ed free t i h r
+module _ (free : ℕ) (t : List Slot) (d : distinct t ≡ true) (i : ℕ) (h : Bytes) (r : Right) where
+  pub in_use_lem : get_elem? t i ≡ some (taken h (enabled r)) → OpenToUse free t i h r
   unfolding act
   in_use_lem e =
       let f = find_at t d i h (enabled r) e in
       record {
-        is_listed = listed ed free t [] i h r e (inl refl);
+        is_listed = listed free t [] i h r e (inl refl);
         is_read = rw f;
         is_lent = λ k u. rw (f, u);
-        is_retrieved = λ n k u. rw (f, n, u);
+        is_retrieved = λ k u. rw (f, u);
         is_removed = rw f;
       }
 
-  pub when_lent : get_elem? t i ≡ some (taken h (disabled r)) → OpenToReturn ed free t i h r
+  pub when_lent : get_elem? t i ≡ some (taken h (disabled r)) → OpenToReturn free t i h r
   unfolding act
   when_lent e =
       let f = find_at t d i h (disabled r) e in
@@ -117,14 +115,14 @@ module _ (t : List Slot) (r : Right) (bare : r.hashes ≡ []) (i : ℕ) where
       set_but d.turns.at (taken k (disabled d.right)) u d.turns.after
       (λ p. stands_but (record { slot = taken h (enabled d.right); there = found_at d.turns; holds = p })) w
 
-  does_but : (ed : Edition) (free : ℕ) (q : Request) → RequestFits ed q → (g : Given) (u : List Slot) → Does free t q g u → HoldsRight u i r → HoldsRightBut t i r
-  does_but ed free (setup h n) z g u d w = set_but free (taken h (reserved n)) u d.after (λ p. absurd (not_there p)) w
-  does_but ed free (install h x) z g u d w =
+  does_but : (free : ℕ) (q : Request) → RequestFits q → (g : Given) (u : List Slot) → Does free t q g u → HoldsRight u i r → HoldsRightBut t i r
+  does_but free (setup h n) z g u d w = set_but free (taken h (reserved n)) u d.after (λ p. absurd (not_there p)) w
+  does_but free (install h x) z g u d w =
       set_but d.turns.at (taken h (enabled x)) u d.turns.after
       (λ p. absurd (omega (arith, z.1.some_hash, ap (λ (y : Right). length y.hashes) (some-injective x r p), ap length bare))) w
-  does_but ed free (retrieve h k) z g u d w = lent_but h k _ g u d w
-  does_but ed free (rek h k) z g u d w = lent_but h k _ g u d w
-  does_but ed free (enable h c) z g u d w = go d.did
+  does_but free (retrieve h k) z g u d w = lent_but h k _ g u d w
+  does_but free (rek h k) z g u d w = lent_but h k _ g u d w
+  does_but free (enable h c) z g u d w = go d.did
     where
       go : ((x : Right) × Stays t h (enabled x) u) ⊎ Returns t h c u → HoldsRightBut t i r
       go (inl x) = same_but u x.1.after w
@@ -141,10 +139,10 @@ module _ (t : List Slot) (r : Right) (bare : r.hashes ≡ []) (i : ℕ) where
                 };
           })
           w
-  does_but ed free (remove h) z g u d w = set_but d.turns.at empty u d.turns.after (λ p. absurd (not_there p)) w
-  does_but ed free (cancel h) z g u d w = set_but d.turns.at empty u d.turns.after (λ p. absurd (not_there p)) w
-  does_but ed free (list limit q) z g u d w = same_but u d.after w
-  does_but ed free (info h) z g u d w = same_but u d.stays.after w
+  does_but free (remove h) z g u d w = set_but d.turns.at empty u d.turns.after (λ p. absurd (not_there p)) w
+  does_but free (cancel h) z g u d w = set_but d.turns.at empty u d.turns.after (λ p. absurd (not_there p)) w
+  does_but free (list limit q) z g u d w = same_but u d.after w
+  does_but free (info h) z g u d w = same_but u d.stays.after w
 
 -- ---- a call on packed slots leaves packed slots, on which no right without a hash stands that did not stand there
 record Leaves (t : List Slot) (table : Bytes) : Type 0 where
@@ -163,8 +161,8 @@ leaves t f c = go (agent (table_of t) c) (comes t f c)
         record {
           slots = d.slots;
           packed = d.after;
-          fits = (fitting t f (edition_in c.request) d.free d.asked z d.given d.slots d.does).0;
-          no_other = λ r e i w. does_but t r e i (edition_in c.request) d.free d.asked z d.given d.slots d.does w;
+          fits = (fitting t f d.free d.asked z d.given d.slots d.does).0;
+          no_other = λ r e i w. does_but t r e i d.free d.asked z d.given d.slots d.does w;
         }
 
 pub none_comes : (table : Bytes) → Bytes256 table → whole_slots table ≡ true → well_table table ≡ true → (c : Call) (i : ℕ) (r : Right)
@@ -217,10 +215,10 @@ all_have_one n p q cs i r w = go r.hashes refl
     go [] e = absurd (a.none_bare r e i (rw (a.packed, slots_table a.slots a.fits) at w))
     go (x ∷ hs) e = omega arith
 
-pub by_course : (n : ℕ) → 1 ≤ n → n ≤ 15 → (cs : List Call) (ed : Edition) (free i : ℕ) (h : Bytes) (r : Right) → get_elem? (slots_of (table_after_all n cs)) i ≡ some (taken h (enabled r))
-    → FoundByCourse ed free (slots_of (table_after_all n cs)) h r
-by_course n p q cs ed free i h r e =
+pub by_course : (n : ℕ) → 1 ≤ n → n ≤ 15 → (cs : List Call) (free i : ℕ) (h : Bytes) (r : Right) → get_elem? (slots_of (table_after_all n cs)) i ≡ some (taken h (enabled r))
+    → FoundByCourse free (slots_of (table_after_all n cs)) h r
+by_course n p q cs free i h r e =
     record {
       some_hash = all_have_one n p q cs i r (record { slot = taken h (enabled r); there = e; holds = refl });
-      by_each = λ x m. listed ed free (slots_of (table_after_all n cs)) (x ∷ []) i h r e (inr (x, (0, refl), m));
+      by_each = λ x m. listed free (slots_of (table_after_all n cs)) (x ∷ []) i h r e (inr (x, (0, refl), m));
     }

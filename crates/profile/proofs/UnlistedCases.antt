@@ -6,7 +6,6 @@ use mathlib.Core.List.{List, [], ◌∷◌}
 use mathlib.Core.Option.{Option, none, some}
 use lib.ListN.{length, get_elem?}
 use Rattle.profile.specs.Bytes.{Bytes, byte, In}
-use Rattle.profile.specs.Edition.{First}
 use Rattle.profile.specs.Slot.{Kept, Right, recount, Slot}
 use Rattle.profile.specs.Request.{list}
 use Rattle.profile.specs.Agent.{Given, nothing, the_right, the_key, handles, counted, Answer, deny, done, act}
@@ -34,7 +33,7 @@ list_in (done (the_key k) t) = []
 list_in (done (handles more hs) t) = hs
 list_in (done (counted c p) t) = []
 
-list_is : {t : List Slot} {q : List Bytes} {h : Bytes} (l : Listed First 5 t q h) → list_in (act First 5 t (list 0 q)) ≡ l.all
+list_is : {t : List Slot} {q : List Bytes} {h : Bytes} (l : Listed 5 t q h) → list_in (act 5 t (list 0 q)) ≡ l.all
 unfolding list_in
 list_is l = ap list_in l.gives
 
@@ -54,7 +53,7 @@ unfolding first_byte
 in_one a h (zero, e) = ap first_byte e
 in_one a h (suc i, e) = absurd (not_there e)
 
-lent_off : Listed First 5 slots [] H4 → ⊥
+lent_off : Listed 5 slots [] H4 → ⊥
 unfolding act list_in
 lent_off l = go (in_two H2 H3 H4 (rw (← (list_is l)) at l.has))
   where
@@ -62,7 +61,7 @@ lent_off l = go (in_two H2 H3 H4 (rw (← (list_is l)) at l.has))
     go (inl e) = not_equal 2 4 (λ t. t) e
     go (inr e) = not_equal 3 4 (λ t. t) e
 
-by_hash_off : (h : Bytes) → (byte 0 H3 ≡ byte 0 h → ⊥) → Listed First 5 slots (A ∷ []) h → ⊥
+by_hash_off : (h : Bytes) → (byte 0 H3 ≡ byte 0 h → ⊥) → Listed 5 slots (A ∷ []) h → ⊥
 unfolding act list_in
 by_hash_off h n l = n (in_one H3 h (rw (← (list_is l)) at l.has))
 

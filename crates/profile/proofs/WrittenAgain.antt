@@ -9,17 +9,16 @@ use lib.Dec.{eqb, leb}
 use lib.ListN.{length, drop, length-drop}
 use lib.Seq.{drop-cons}
 use Rattle.profile.specs.Bytes.{Bytes, Bytes256, byte, word, zeros, over, joined, pieces}
-use Rattle.profile.specs.Edition.{Edition, hash_size, most_hashes}
+use Rattle.profile.specs.Sizes.{hash_size, most_hashes}
 use Rattle.profile.specs.Slot.{Count, kept_bit, count_number, count_holds, HashesFit}
-use Rattle.profile.specs.Frame.{Kind, setup_kind, install_kind, retrieve_kind, rek_kind, enable_kind, remove_kind, cancel_kind, list_kind, info_kind, kind_of, version_in, edition_in, kind_number}
+use Rattle.profile.specs.Frame.{Kind, setup_kind, install_kind, retrieve_kind, rek_kind, enable_kind, remove_kind, cancel_kind, list_kind, info_kind, kind_of, kind_number}
 use Rattle.profile.specs.Request.{Request, setup, install, retrieve, rek, enable, remove, cancel, list, info, asks, verdict, guarded, fields, read_request, with_verdict, RequestFits}
 use Rattle.profile.specs.Device.{none?, whole_hashes, kind_holds, request_of, fields_with, fields_in, Arrays, Written, write}
 use Rattle.profile.specs.Theorems.{WrittenAgain}
 use Rattle.profile.proofs.Logic.{both, and_parts, eqb_true, leb_le, leb_true, ltb_false, from_1_to, positive}
 use Rattle.profile.proofs.Strings.{length_zeros, length_each, pieces_joined}
 use Rattle.profile.proofs.Counts.{kept_small, count_holds_lem, count_back}
-use Rattle.profile.proofs.Editions.{bytes_whole, some_bytes}
-use Rattle.profile.proofs.Frames.{version_known, Reads, reads}
+use Rattle.profile.proofs.Frames.{Reads, reads}
 use Rattle.profile.proofs.Requests.{read_fits, kind_number_lem, write_reads}
 
 -- ---- the fields of a request, written
@@ -46,76 +45,71 @@ kind_for_lem cancel_kind f = refl
 kind_for_lem list_kind f = refl
 kind_for_lem info_kind f = refl
 
-module _ (ed : Edition) (hs : List Bytes) (z : HashesFit (hash_size ed) (most_hashes ed) hs) where
-  size : length (joined hs) ≡ hash_size ed * length hs
-  size = length_each (hash_size ed) hs z.each
+module _ (hs : List Bytes) (z : HashesFit hash_size most_hashes hs) where
+  size : length (joined hs) ≡ 20 * length hs
+  size = length_each 20 hs z.each
 
-  pub whole : whole_hashes ed (joined hs) ≡ true
+  pub whole : whole_hashes (joined hs) ≡ true
   whole =
-      let b = bytes_whole ed (length hs) (length (joined hs)) size in
-      both (eqb_true (length (joined hs) % hash_size ed) 0 b.0)
-      (rw b.1 (leb_true (length hs) (most_hashes ed) z.few))
+      both (eqb_true (length (joined hs) % 20) 0 (omega (arith, size)))
+      (leb_true (length (joined hs) / 20) 8 (omega (arith, size, z.few)))
 
-  pub cut_again : pieces (hash_size ed) (length (joined hs) / hash_size ed) (joined hs) ≡ hs
+  pub cut_again : pieces hash_size (length (joined hs) / hash_size) (joined hs) ≡ hs
   cut_again =
-      rw (bytes_whole ed (length hs) (length (joined hs)) size).1
-      (ap (pieces (hash_size ed) (length hs)) (sym (append-nil (joined hs))) ∙ pieces_joined (hash_size ed) hs [] z.each)
+      let n : length (joined hs) / 20 ≡ length hs = omega (arith, size) in
+      rw n (ap (pieces hash_size (length hs)) (sym (append-nil (joined hs))) ∙ pieces_joined hash_size hs [] z.each)
 
-not_none : (s : Bytes) → 1 ≤ length s → not (none? s) ≡ true
-not_none [] h = absurd (omega (arith, h))
-not_none (x ∷ s) h = refl
+some_bytes : (s : Bytes) → 1 ≤ length s → not (none? s) ≡ true
+some_bytes [] h = absurd (omega (arith, h))
+some_bytes (x ∷ s) h = refl
 
 -- a count's number and bit say a count
 count_said : (c : Count) → (leb (kept_bit c) 1 && count_holds (kept_bit c) (count_number c)) ≡ true
 count_said c = both (leb_true (kept_bit c) 1 (omega (arith, kept_small c))) (count_holds_lem c)
 
--- no hash at all is whole in either edition
-no_hashes_lem : (ed : Edition) {b : Bool} → b ≡ true → (whole_hashes ed [] && b) ≡ true
-no_hashes_lem ed e = both (whole ed [] (record { each = tt; few = omega arith })) e
-
-allowed : (ed : Edition) (q : Request) → RequestFits ed q → (whole_hashes ed (fields_in q).hashes && kind_holds (kind_for q) (fields_in q)) ≡ true
+allowed : (q : Request) → RequestFits q → (whole_hashes (fields_in q).hashes && kind_holds (kind_for q) (fields_in q)) ≡ true
 unfolding kind_for zeros
-allowed ed (setup h n) z = no_hashes_lem ed refl
-allowed ed (install h r) z =
-    both (whole ed r.hashes z.1.fits.room.hashed) (both
-    (both (count_said r.count) (not_none (joined r.hashes) (rw (size ed r.hashes z.1.fits.room.hashed) (some_bytes ed (length r.hashes) z.1.some_hash))))
+allowed (setup h n) z = refl
+allowed (install h r) z =
+    both (whole r.hashes z.1.fits.room.hashed) (both
+    (both (count_said r.count) (some_bytes (joined r.hashes) (omega (arith, size r.hashes z.1.fits.room.hashed, z.1.some_hash))))
     (from_1_to {n = length r.payload} {m = 4096} z.1.fits.some_payload z.1.fits.room.short))
-allowed ed (retrieve h k) z = no_hashes_lem ed refl
-allowed ed (rek h k) z = no_hashes_lem ed refl
-allowed ed (enable h c) z = no_hashes_lem ed (count_said c)
-allowed ed (remove h) z = no_hashes_lem ed refl
-allowed ed (cancel h) z = no_hashes_lem ed refl
-allowed ed (list limit q) z = both (whole ed q z) refl
-allowed ed (info h) z = no_hashes_lem ed refl
+allowed (retrieve h k) z = refl
+allowed (rek h k) z = refl
+allowed (enable h c) z = count_said c
+allowed (remove h) z = refl
+allowed (cancel h) z = refl
+allowed (list limit q) z = both (whole q z) refl
+allowed (info h) z = refl
 
-back : (ed : Edition) (q : Request) → RequestFits ed q → request_of ed (kind_for q) (fields_in q) ≡ q
+back : (q : Request) → RequestFits q → request_of (kind_for q) (fields_in q) ≡ q
 unfolding kind_for
-back ed (setup h n) z = refl
-back ed (install h r) z =
+back (setup h n) z = refl
+back (install h r) z =
     ap₂ {C = Request} (λ (c : Count) (hs : List Bytes). install h (record { key = r.key; count = c; hashes = hs; payload = r.payload }))
-    (count_back r.count) (cut_again ed r.hashes z.1.fits.room.hashed)
-back ed (retrieve h k) z = refl
-back ed (rek h k) z = refl
-back ed (enable h c) z = ap {B = Request} (enable h) (count_back c)
-back ed (remove h) z = refl
-back ed (cancel h) z = refl
-back ed (list limit q) z = ap {B = Request} (list limit) (cut_again ed q z)
-back ed (info h) z = refl
+    (count_back r.count) (cut_again r.hashes z.1.fits.room.hashed)
+back (retrieve h k) z = refl
+back (rek h k) z = refl
+back (enable h c) z = ap {B = Request} (enable h) (count_back c)
+back (remove h) z = refl
+back (cancel h) z = refl
+back (list limit q) z = ap {B = Request} (list limit) (cut_again q z)
+back (info h) z = refl
 
 arrays_with : (h k key : Bytes) (room c bit limit : ℕ) (hashes payload : Bytes)
     → length h ≡ 10 → length k ≡ 10 → length key ≡ 16 → Arrays (fields_with h k key room c bit limit hashes payload)
 arrays_with h k key room c bit limit hashes payload a b d = record { handle_10 = a; new_10 = b; key_16 = d }
 
-arrays : (ed : Edition) (q : Request) → RequestFits ed q → Arrays (fields_in q)
-arrays ed (setup h n) z = arrays_with _ _ _ _ _ _ _ _ _ z (length_zeros 10) (length_zeros 16)
-arrays ed (install h r) z = arrays_with _ _ _ _ _ _ _ _ _ z.0 (length_zeros 10) z.1.fits.room.key_16
-arrays ed (retrieve h k) z = arrays_with _ _ _ _ _ _ _ _ _ z.0 z.1 (length_zeros 16)
-arrays ed (rek h k) z = arrays_with _ _ _ _ _ _ _ _ _ z.0 z.1 (length_zeros 16)
-arrays ed (enable h c) z = arrays_with _ _ _ _ _ _ _ _ _ z (length_zeros 10) (length_zeros 16)
-arrays ed (remove h) z = arrays_with _ _ _ _ _ _ _ _ _ z (length_zeros 10) (length_zeros 16)
-arrays ed (cancel h) z = arrays_with _ _ _ _ _ _ _ _ _ z (length_zeros 10) (length_zeros 16)
-arrays ed (list limit q) z = arrays_with _ _ _ _ _ _ _ _ _ (length_zeros 10) (length_zeros 10) (length_zeros 16)
-arrays ed (info h) z = arrays_with _ _ _ _ _ _ _ _ _ z (length_zeros 10) (length_zeros 16)
+arrays : (q : Request) → RequestFits q → Arrays (fields_in q)
+arrays (setup h n) z = arrays_with _ _ _ _ _ _ _ _ _ z (length_zeros 10) (length_zeros 16)
+arrays (install h r) z = arrays_with _ _ _ _ _ _ _ _ _ z.0 (length_zeros 10) z.1.fits.room.key_16
+arrays (retrieve h k) z = arrays_with _ _ _ _ _ _ _ _ _ z.0 z.1 (length_zeros 16)
+arrays (rek h k) z = arrays_with _ _ _ _ _ _ _ _ _ z.0 z.1 (length_zeros 16)
+arrays (enable h c) z = arrays_with _ _ _ _ _ _ _ _ _ z (length_zeros 10) (length_zeros 16)
+arrays (remove h) z = arrays_with _ _ _ _ _ _ _ _ _ z (length_zeros 10) (length_zeros 16)
+arrays (cancel h) z = arrays_with _ _ _ _ _ _ _ _ _ z (length_zeros 10) (length_zeros 16)
+arrays (list limit q) z = arrays_with _ _ _ _ _ _ _ _ _ (length_zeros 10) (length_zeros 10) (length_zeros 16)
+arrays (info h) z = arrays_with _ _ _ _ _ _ _ _ _ z (length_zeros 10) (length_zeros 16)
 
 -- ---- the verdict
 -- kinds 1 to 7 ask for it
@@ -147,17 +141,17 @@ module _ (f : Bytes) (q : Request) (y : Bytes256 f) (r : Reads f q) where
   as_long : length (with_verdict f) ≡ length f
   as_long = rw (length-drop 2 f) (omega (arith, long))
 
-  again : (buffer : Bytes) → length f ≤ length buffer → write (version_in f) (kind_number f) (fields_in q) buffer ≡ record { number = 0; buffer = over (with_verdict f) buffer }
+  again : (buffer : Bytes) → length f ≤ length buffer → write (kind_number f) (fields_in q) buffer ≡ record { number = 0; buffer = over (with_verdict f) buffer }
   unfolding write
   again buffer h =
-      let z : RequestFits (edition_in f) q = read_fits f q r in
+      let z : RequestFits q = read_fits f q r in
       let k : kind_for q ≡ r.kind = ap kind_for r.is ∙ kind_for_lem r.kind f in
-      rw (version_known f r.version, r.number, ← k, allowed (edition_in f) q z, back (edition_in f) q z, write_reads f q y r, as_long, ltb_false (length buffer) (length f) h)
+      rw (r.number, ← k, allowed q z, back q z, write_reads f q y r, as_long, ltb_false (length buffer) (length f) h)
 
 pub written_again : (f : Bytes) (q : Request) → Bytes256 f → read_request f ≡ asks q → (buffer : Bytes) → length f ≤ length buffer → WrittenAgain f q buffer
 written_again f q y e buffer h =
     record {
-      arrays = arrays (edition_in f) q (read_fits f q r);
+      arrays = arrays q (read_fits f q r);
       same_bytes = λ n. again f q y r buffer h ∙ ap {B = Written} (λ (x : Bytes). record { number = 0; buffer = over x buffer }) (held f q y r n);
       but_verdict = again f q y r buffer h;
     }

@@ -1,7 +1,6 @@
 -- PROFILE 5, kind by kind, in worked cases on slots told without their bytes: each test, and each pair of tests of which both apply.
 use Rattle.std.specs.Prelude.{ℕ, ◌≡◌, List, [], ◌∷◌, ◌++◌, map, Bool, true, false, take, replicate}
 use Rattle.profile.specs.Bytes.{Bytes, joined, pieces}
-use Rattle.profile.specs.Edition.{First}
 use Rattle.profile.specs.Slot.{NoneKept, Kept, Right, right_with, recount, reserved, enabled, disabled, Slot, empty, taken}
 use Rattle.profile.specs.Frame.{Refusal, parameter, not_found, duplicate, unexpected, no_space, count_raised}
 use Rattle.profile.specs.Request.{Request, setup, install, retrieve, rek, enable, remove, cancel, list, info}
@@ -236,7 +235,7 @@ unfoldable pub cases : List Case
 cases = joined (setups ∷ installations ∷ lendings ∷ others ∷ listings ∷ [])
 
 pub record Hold : Type 0 where
-  pub acts : map (λ c. act First (first_empty_from 0 c.slots) c.slots c.request) cases ≡ map (λ c. c.answer) cases
+  pub acts : map (λ c. act (first_empty_from 0 c.slots) c.slots c.request) cases ≡ map (λ c. c.answer) cases
   -- PROFILE 5.1: the lowest empty slot; with none empty, the number of slots
   pub lowest : map lowest_empty ([] ∷ full ∷ spare ∷ (empty ∷ full) ∷ (taken H1 (reserved 5) ∷ empty ∷ full) ∷ []) ≡ 0 ∷ 3 ∷ 3 ∷ 0 ∷ 1 ∷ []
   -- PROFILE 5.1: from every start of some slots: the first empty one at or after it, else the first one before it; with none empty, the number of slots
@@ -246,6 +245,6 @@ pub record Hold : Type 0 where
   pub of_highest : map (λ i. first_empty_from i spare) (counting 0 4) ≡ 3 ∷ 3 ∷ 3 ∷ 3 ∷ []
   pub of_full : map (λ i. first_empty_from i full) (counting 0 3) ≡ 3 ∷ 3 ∷ 3 ∷ []
   -- a setup takes the slot found
-  pub from_2 : act First (first_empty_from 2 (empty ∷ busy ∷ busy ∷ empty ∷ [])) (empty ∷ busy ∷ busy ∷ empty ∷ []) (setup H4 5) ≡ done nothing (empty ∷ busy ∷ busy ∷ taken H4 (reserved 5) ∷ [])
-  pub from_last : act First (first_empty_from 2 (empty ∷ empty ∷ busy ∷ [])) (empty ∷ empty ∷ busy ∷ []) (setup H4 5) ≡ done nothing (taken H4 (reserved 5) ∷ empty ∷ busy ∷ [])
+  pub from_2 : act (first_empty_from 2 (empty ∷ busy ∷ busy ∷ empty ∷ [])) (empty ∷ busy ∷ busy ∷ empty ∷ []) (setup H4 5) ≡ done nothing (empty ∷ busy ∷ busy ∷ taken H4 (reserved 5) ∷ [])
+  pub from_last : act (first_empty_from 2 (empty ∷ empty ∷ busy ∷ [])) (empty ∷ empty ∷ busy ∷ []) (setup H4 5) ≡ done nothing (taken H4 (reserved 5) ∷ empty ∷ busy ∷ [])
   pub firsts : map (λ l. first_of l.0 (pieces 10 15 fifteen_handles)) limits ≡ map (λ l. handles l.2 (take l.1 (pieces 10 15 fifteen_handles))) limits

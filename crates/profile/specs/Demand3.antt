@@ -3,10 +3,9 @@ use Rattle.std.specs.Prelude.{ℕ, ◌+◌, ◌*◌, ◌≡◌, ◌↔◌, List,
 use Rattle.std.proofs.Math.Option.{some}
 use Rattle.std.proofs.Math.ListN.{get_elem?}
 use Rattle.profile.specs.Bytes.{Bytes, same, part, any, In, over}
-use Rattle.profile.specs.Edition.{Edition}
 use Rattle.profile.specs.Slot.{Count, kept_bit, Right, Entry, reserved, enabled, disabled, Slot, taken}
 use Rattle.profile.specs.Table.{slot_bytes, slots_of, whole_slots, well_table}
-use Rattle.profile.specs.Frame.{frame, edition_in, write_right}
+use Rattle.profile.specs.Frame.{frame, write_right}
 use Rattle.profile.specs.Request.{Request, setup, install, retrieve, rek, enable, remove, cancel, list, info}
 use Rattle.profile.specs.Agent.{Call, agent}
 use Rattle.profile.specs.History.{open_setup, Owned, for_use, lent, Ledger, blank_ledger, right_number, Exchange}
@@ -55,14 +54,14 @@ pub record KeyOut (table : Bytes) (c : Call) (h k : Bytes) : Type 0 where
 
 -- a key goes out only for a right that is for use at that moment: a right is for use under h by the ledger l, and its key is what the reply
 -- holds after its head; what was for use under h is lent under k by the ledger l'
-pub record LentOut (e : Edition) (l l' : Ledger) (asked : Request) (h k buffer reply : Bytes) : Type 0 where
+pub record LentOut (l l' : Ledger) (asked : Request) (h k buffer reply : Bytes) : Type 0 where
   pub number : ℕ
   pub right : Right
   pub usable : right_number number l ≡ some (for_use h right)
   pub sent : part 4 16 reply ≡ right.key
-  -- kind 3 sends this right whole, kind 4 its key, in the edition asked; nothing else of the buffer is changed, so nothing of another right goes out
-  pub whole : asked ≡ retrieve h k → reply ≡ over (frame e 3 (128 * kept_bit right.count) (write_right right)) buffer
-  pub alone : asked ≡ rek h k → reply ≡ over (frame e 4 0 right.key) buffer
+  -- kind 3 sends this right whole, kind 4 its key; nothing else of the buffer is changed, so nothing of another right goes out
+  pub whole : asked ≡ retrieve h k → reply ≡ over (frame 3 (128 * kept_bit right.count) (write_right right)) buffer
+  pub alone : asked ≡ rek h k → reply ≡ over (frame 4 0 right.key) buffer
   pub then_lent : (i : ℕ) (r : Right) → right_number i l ≡ some (for_use h r) → right_number i l' ≡ some (lent k r)
 
 -- the key that goes out is that of the right of number i
@@ -124,7 +123,7 @@ pub record Demand3On (l : Ledger) (table : Bytes) (cs : List Call) : Type 0 wher
       → NoHigher p.right.count (held o).count
   -- a key goes out only for a right that is for use at that moment, and what goes out is of this right
   pub key_out : (c : Call) (h k : Bytes) (o : KeyOut (table_then table cs) c h k)
-      → LentOut (edition_in c.request) (ledger_on l table cs) (ledger_on l table (cs ++ (c ∷ []))) o.asked h k c.buffer (agent (table_then table cs) c).reply
+      → LentOut (ledger_on l table cs) (ledger_on l table (cs ++ (c ∷ []))) o.asked h k c.buffer (agent (table_then table cs) c).reply
   -- if the right of number i is for use under h when its key goes out, and for use again after further calls,
   -- then among these a return under the handle k, set when the key went out, has succeeded
   pub between : (c : Call) (h k : Bytes) → KeyOut (table_then table cs) c h k → (more : List Call) (i : ℕ) (h' : Bytes) (r r' : Right)

@@ -1,8 +1,8 @@
 -- PROFILE 2.5, 4, 5.1 and 5.8 said once more, each rule in another way than its definition says it: so that a wrong definition is refused.
-use Rattle.std.specs.Prelude.{ℕ, ◌+◌, ◌-◌, ◌*◌, ◌/◌, ◌≤◌, ◌<◌, ◌≡◌, ◌⊎◌, ◌↔◌, List, [], ◌∷◌, ◌++◌, Bool, true, false, eqb, ltb, length, set}
+use Rattle.std.specs.Prelude.{ℕ, ◌+◌, ◌-◌, ◌*◌, ◌≤◌, ◌<◌, ◌≡◌, ◌⊎◌, ◌↔◌, List, [], ◌∷◌, ◌++◌, Bool, true, false, eqb, ltb, length, set}
 use Rattle.std.proofs.Math.Option.{some}
 use Rattle.std.proofs.Math.ListN.{get_elem?}
-use Rattle.profile.specs.Bytes.{Bytes, if◌then◌else◌, byte, In, over}
+use Rattle.profile.specs.Bytes.{Bytes, if◌then◌else◌, In, over}
 use Rattle.profile.specs.Slot.{Right, Entry, reserved, enabled, disabled, Slot, empty, taken}
 use Rattle.profile.specs.Frame.{Refusal, code, kind_number, status_in}
 use Rattle.profile.specs.Agent.{Given, handles, Found, absent, one, Call, Outcome}
@@ -13,15 +13,11 @@ abbrev pub Apart : List Slot → Type 0
 Apart t = (i j : ℕ) (h : Bytes) (e f : Entry) → get_elem? t i ≡ some (taken h e) → get_elem? t j ≡ some (taken h f) → i ≡ j
 
 -- ---- PROFILE 4
--- the first byte of a reply: version 2 where that was asked, and version 1 for every other; the kind as asked
-abbrev pub first_byte : Bytes → ℕ
-first_byte f = (if eqb (byte 0 f / 32) 2 then 64 else 32) + kind_number f
-
--- a call that gives a number changes nothing; one that gives a status writes four bytes, its first byte and the status in them, and changes nothing else
+-- a call that gives a number changes nothing; one that gives a status writes four bytes, the kind as asked and the status in them, and changes nothing else
 pub record Refuses (table : Bytes) (c : Call) (o : Outcome) : Type 0 where
   pub by_number : eqb o.number 0 ≡ false → (o.reply ≡ c.buffer) × (o.table ≡ table) × (o.tally ≡ c.tally)
   pub by_status : eqb o.number 0 ≡ true → eqb (status_in o.reply) 0 ≡ false
-      → (o.reply ≡ over (first_byte c.request ∷ status_in o.reply ∷ 0 ∷ 0 ∷ []) c.buffer) × (o.table ≡ table) × (o.tally ≡ c.tally)
+      → (o.reply ≡ over ((32 + kind_number c.request) ∷ status_in o.reply ∷ 0 ∷ 0 ∷ []) c.buffer) × (o.table ≡ table) × (o.tally ≡ c.tally)
 
 -- PROFILE 4.2: a status is 0, or the number of a refusal
 abbrev pub AStatus : ℕ → Type 0

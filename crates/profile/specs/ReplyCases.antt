@@ -2,7 +2,6 @@
 use Rattle.std.specs.Prelude.{ℕ, ◌≡◌, List, [], ◌∷◌, ◌++◌, map, true, false, take, replicate}
 use Prim.Native.String.{String}
 use Rattle.profile.specs.Bytes.{Bytes, joined}
-use Rattle.profile.specs.Edition.{First}
 use Rattle.profile.specs.Slot.{NoneKept, Kept, right_with}
 use Rattle.profile.specs.Frame.{integrity, parameter, unsupported, not_found, duplicate, unexpected, no_space, count_raised}
 use Rattle.profile.specs.Agent.{nothing, the_right, the_key, handles, counted, deny, done, Answer, reply_frame}
@@ -39,7 +38,7 @@ heads =
     ∷ bad (hex "24 00 10 00" ++ key)
     -- version
     ∷ bad (hex "01 00 00 00")
-    ∷ plain 1 (hex "41 00 00 00")
+    ∷ bad (hex "41 00 00 00")
     ∷ bad (hex "61 05 00 00")
     ∷ bad (hex "A1 00 00 00")
     -- status
@@ -65,12 +64,6 @@ heads =
     ∷ bad (hex "28 08 00 00")
     ∷ bad (hex "29 08 00 00")
     ∷ bad (hex "3F 08 00 00")
-    -- 10 is one too, and 11 is none
-    ∷ (hex "23 0A 00 00", failed 3 10)
-    ∷ (hex "3F 0A 00 00", failed 31 10)
-    ∷ bad (hex "23 0A 00 01 00")
-    ∷ bad (hex "23 8A 00 00")
-    ∷ bad (hex "23 0B 00 00")
     -- 9 is one, whatever the kind; it has no body, and no bit of a count
     ∷ (hex "20 09 00 00", failed 0 9)
     ∷ (hex "21 09 00 00", failed 1 9)
@@ -82,6 +75,7 @@ heads =
     ∷ bad (hex "29 89 00 00")
     ∷ bad (hex "25 49 00 00")
     -- no other number is
+    ∷ bad (hex "21 0A 00 00")
     ∷ bad (hex "21 0B 00 00")
     ∷ bad (hex "21 10 00 00")
     ∷ bad (hex "21 19 00 00")
@@ -223,5 +217,5 @@ cases = heads ++ shapes ++ rights
 
 pub record Hold : Type 0 where
   pub read : map (λ c. read_reply c.0) cases ≡ map (λ c. c.1) cases
-  pub send : map (λ a. reply_frame First a.0 a.1) answers ≡ map (λ a. a.2) answers
+  pub send : map (λ a. reply_frame a.0 a.1) answers ≡ map (λ a. a.2) answers
   pub back : map (λ a. read_reply a.2) answers ≡ map (λ a. sent a.0 a.1) answers

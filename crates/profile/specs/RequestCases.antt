@@ -2,7 +2,6 @@
 use Prim.Native.String.{String}
 use Rattle.std.specs.Prelude.{◌≡◌, List, [], ◌∷◌, ◌++◌, map, ℕ, Bool, true, false, take, replicate}
 use Rattle.profile.specs.Bytes.{Bytes, joined}
-use Rattle.profile.specs.Edition.{First}
 use Rattle.profile.specs.Slot.{NoneKept, Kept, right_with}
 use Rattle.profile.specs.Frame.{Kind, setup_kind, install_kind, retrieve_kind, rek_kind, enable_kind, remove_kind, cancel_kind, list_kind, info_kind, version_holds, kind_number, hash_count_at18, Refusal, integrity, parameter, unsupported}
 use Rattle.profile.specs.Request.{Request, setup, install, retrieve, rek, enable, remove, cancel, list, info}
@@ -65,10 +64,11 @@ no_frames =
     ∷ refuses (hex "2A 80 00 00") unsupported
     ∷ []
 
--- ---- PROFILE 4.3: each other version than 1 and 2, each zero bit; before kind, length, verdict and fields
+-- ---- PROFILE 4.3: each other version, each zero bit; before kind, length, verdict and fields
 unfoldable pub heads : List Case
 heads =
     refuses (hex "06 80 00 0A" ++ h) parameter
+    ∷ refuses (hex "46 80 00 0A" ++ h) parameter
     ∷ refuses (hex "66 80 00 0A" ++ h) parameter
     ∷ refuses (hex "86 80 00 0A" ++ h) parameter
     ∷ refuses (hex "A6 80 00 0A" ++ h) parameter
@@ -84,11 +84,11 @@ heads =
     ∷ refuses (hex "06 00 00 0A" ++ h) parameter
     ∷ refuses (hex "26 01 00 0A" ++ h) parameter
     ∷ refuses (hex "26 40 00 0A" ++ h) parameter
-    ∷ refuses (hex "68 80 00 03 00 00 00") parameter
+    ∷ refuses (hex "48 80 00 03 00 00 00") parameter
     ∷ refuses (hex "28 01 00 03 00 00 00") parameter
     ∷ refuses (hex "29 40 00 0A" ++ h) parameter
     ∷ refuses (hex "0A 80 00 00") parameter
-    ∷ refuses (hex "6A 80 00 00") parameter
+    ∷ refuses (hex "4A 80 00 00") parameter
     ∷ refuses (hex "2A 81 00 00") parameter
     ∷ refuses (hex "20 C0 00 00") parameter
     -- the bit of a count in each kind that sends none, known or not; and before the verdict, and before an unknown kind
@@ -234,7 +234,7 @@ unfoldable pub cases : List Case
 cases = joined (requests ∷ no_frames ∷ heads ∷ kinds ∷ lengths ∷ verdicts ∷ field_tests ∷ [])
 
 abbrev pub written : Read → List Bytes
-written (asks r) = write_request First r ∷ []
+written (asks r) = write_request r ∷ []
 written (refused r) = []
 written no_frame = []
 
@@ -261,7 +261,7 @@ pub record Hold : Type 0 where
   pub zero_bits_6 : map zero_bits (hex "22 40" ∷ hex "22 C0" ∷ hex "22 E0" ∷ hex "25 80" ∷ hex "25 40" ∷ hex "25 41" ∷ hex "26 40" ∷ hex "20 40" ∷ hex "2A C0" ∷ [])
       ≡ true ∷ true ∷ false ∷ true ∷ true ∷ false ∷ false ∷ false ∷ false ∷ []
   -- PROFILE 3: three bits of version, five of kind
-  pub versions : map version_holds (hex "00" ∷ hex "1F" ∷ hex "20" ∷ hex "3F" ∷ hex "40" ∷ hex "61" ∷ []) ≡ false ∷ false ∷ true ∷ true ∷ true ∷ false ∷ []
+  pub versions : map version_holds (hex "00" ∷ hex "1F" ∷ hex "20" ∷ hex "3F" ∷ hex "40" ∷ hex "61" ∷ []) ≡ false ∷ false ∷ true ∷ true ∷ false ∷ false ∷ []
   pub kind_bits : map kind_number (hex "00" ∷ hex "1F" ∷ hex "E0" ∷ hex "30" ∷ hex "2A" ∷ []) ≡ 0 ∷ 31 ∷ 0 ∷ 16 ∷ 10 ∷ []
   -- PROFILE 3.3: the high half of the hash byte, after key and count
   pub hash_counts : map (λ b. hash_count_at18 (replicate 18 0x00 ++ (b ∷ []))) (0x0F ∷ 0x10 ∷ 0x8F ∷ 0xFF ∷ []) ≡ 0 ∷ 1 ∷ 8 ∷ 15 ∷ []

@@ -1,7 +1,6 @@
 -- PROFILE 5.5, 8.3 and 8.7: counts that never rise, said once more.
 use Rattle.std.specs.Prelude.{ℕ, ◌≤◌, ◌≡◌, List, ℤ, pos, neg_ℤ, set}
 use Rattle.profile.specs.Bytes.{Bytes}
-use Rattle.profile.specs.Edition.{Edition}
 use Rattle.profile.specs.Slot.{Count, NoneKept, Kept, Right, recount, enabled, disabled, Slot, taken}
 use Rattle.profile.specs.Request.{Request, enable}
 use Rattle.profile.specs.Agent.{nothing, done, one, find, act}
@@ -24,10 +23,10 @@ pub record Raises (t : List Slot) (q : Request) : Type 0 where
   pub higher : NoHigher right.count sent → ⊥
 
 -- the right r is lent under h in slot i: it can be returned as it went, and without knowing its count, too: with a kept count of 0, or else with none
-pub record ReturnedAnyway (e : Edition) (free : ℕ) (t : List Slot) (i : ℕ) (h : Bytes) (r : Right) : Type 0 where
-  pub as_it_went : act e free t (enable h r.count) ≡ done nothing (set t i (taken h (enabled r)))
-  pub with_0 : (a : ℕ) → r.count ≡ Kept a → act e free t (enable h (Kept 0)) ≡ done nothing (set t i (taken h (enabled (recount (Kept 0) r))))
-  pub with_none : r.count ≡ NoneKept → act e free t (enable h NoneKept) ≡ done nothing (set t i (taken h (enabled r)))
+pub record ReturnedAnyway (free : ℕ) (t : List Slot) (i : ℕ) (h : Bytes) (r : Right) : Type 0 where
+  pub as_it_went : act free t (enable h r.count) ≡ done nothing (set t i (taken h (enabled r)))
+  pub with_0 : (a : ℕ) → r.count ≡ Kept a → act free t (enable h (Kept 0)) ≡ done nothing (set t i (taken h (enabled (recount (Kept 0) r))))
+  pub with_none : r.count ≡ NoneKept → act free t (enable h NoneKept) ≡ done nothing (set t i (taken h (enabled r)))
 
 -- ---- PROFILE 8.7: a signed number that is not above 0: so much below it
 pub record NotAbove (z : ℤ) : Type 0 where

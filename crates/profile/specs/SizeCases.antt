@@ -1,7 +1,6 @@
 -- PROFILE 1.3 and 2.4, in worked cases: which sizes fit, the least and the greatest, and which do not.
 use Rattle.std.specs.Prelude.{List, [], ◌∷◌, replicate}
 use Rattle.profile.specs.Bytes.{Bytes}
-use Rattle.profile.specs.Edition.{First}
 use Rattle.profile.specs.Slot.{Kept, Right, right_with, reserved, enabled, disabled, empty, taken, RightFits, SlotFits, TableFits}
 use Rattle.profile.specs.Request.{setup, install, retrieve, rek, enable, remove, cancel, list, info, Installable, RequestFits}
 use Rattle.profile.specs.CaseBytes.{hex, H1, H2, K, A, B}
@@ -65,31 +64,31 @@ pub record Hold : Type 0 where
   pub first_bad : ¬ TableFits (taken H1 (reserved 0) ∷ empty ∷ [])
   pub last_bad : ¬ TableFits (empty ∷ taken H1 (reserved 0) ∷ [])
   -- PROFILE 5.2: what can be installed: what fits, and has a hash
-  pub least_sent_lem : Installable First least_sent
-  pub most_sent : Installable First most
-  pub no_hash : ¬ Installable First least
-  pub not_fitting : ¬ Installable First (of K (A ∷ []) [])
+  pub least_sent_lem : Installable least_sent
+  pub most_sent : Installable most
+  pub no_hash : ¬ Installable least
+  pub not_fitting : ¬ Installable (of K (A ∷ []) [])
   -- requests
-  pub setup_fits : RequestFits First (setup H1 0)
-  pub install_fits : RequestFits First (install H1 most)
-  pub retrieve_fits : RequestFits First (retrieve H1 H1)
-  pub rek_fits : RequestFits First (rek H1 H2)
-  pub enable_fits : RequestFits First (enable H1 (Kept 65535))
-  pub remove_fits : RequestFits First (remove H1)
-  pub cancel_fits : RequestFits First (cancel H1)
-  pub list_fits_lem : RequestFits First (list 0 most.hashes)
-  pub info_fits : RequestFits First (info H1)
-  pub setup_9 : ¬ RequestFits First (setup H9 5)
-  pub install_9 : ¬ RequestFits First (install H9 least_sent)
-  pub install_0 : ¬ RequestFits First (install H1 (of K (A ∷ []) []))
-  pub install_bare : ¬ RequestFits First (install H1 least)
-  pub retrieve_9 : ¬ RequestFits First (retrieve H9 H2)
-  pub retrieve_11 : ¬ RequestFits First (retrieve H1 H11)
-  pub rek_9 : ¬ RequestFits First (rek H9 H2)
-  pub rek_11 : ¬ RequestFits First (rek H1 H11)
-  pub enable_9 : ¬ RequestFits First (enable H9 (Kept 3))
-  pub remove_9 : ¬ RequestFits First (remove H9)
-  pub cancel_11 : ¬ RequestFits First (cancel H11)
-  pub list_9 : ¬ RequestFits First (list 0 nine)
-  pub list_19 : ¬ RequestFits First (list 0 short)
-  pub info_11 : ¬ RequestFits First (info H11)
+  pub setup_fits : RequestFits (setup H1 0)
+  pub install_fits : RequestFits (install H1 most)
+  pub retrieve_fits : RequestFits (retrieve H1 H1)
+  pub rek_fits : RequestFits (rek H1 H2)
+  pub enable_fits : RequestFits (enable H1 (Kept 65535))
+  pub remove_fits : RequestFits (remove H1)
+  pub cancel_fits : RequestFits (cancel H1)
+  pub list_fits_lem : RequestFits (list 0 most.hashes)
+  pub info_fits : RequestFits (info H1)
+  pub setup_9 : ¬ RequestFits (setup H9 5)
+  pub install_9 : ¬ RequestFits (install H9 least_sent)
+  pub install_0 : ¬ RequestFits (install H1 (of K (A ∷ []) []))
+  pub install_bare : ¬ RequestFits (install H1 least)
+  pub retrieve_9 : ¬ RequestFits (retrieve H9 H2)
+  pub retrieve_11 : ¬ RequestFits (retrieve H1 H11)
+  pub rek_9 : ¬ RequestFits (rek H9 H2)
+  pub rek_11 : ¬ RequestFits (rek H1 H11)
+  pub enable_9 : ¬ RequestFits (enable H9 (Kept 3))
+  pub remove_9 : ¬ RequestFits (remove H9)
+  pub cancel_11 : ¬ RequestFits (cancel H11)
+  pub list_9 : ¬ RequestFits (list 0 nine)
+  pub list_19 : ¬ RequestFits (list 0 short)
+  pub info_11 : ¬ RequestFits (info H11)

@@ -21,18 +21,18 @@ handle_size = 10
 abbrev pub key_size : ℕ
 key_size = 16
 
--- room for a hash of either edition, and how many of them there are at most
-abbrev pub longest_hash : ℕ
-longest_hash = 32
+-- an asset hash is a SHA-1 digest
+abbrev pub hash_size : ℕ
+hash_size = 20
 
-abbrev pub most_of_either : ℕ
-most_of_either = 8
+abbrev pub most_hashes : ℕ
+most_hashes = 8
 
--- room for the most hashes, in either edition
+-- room for the most hashes
 abbrev pub hash_room : ℕ
 hash_room = 160
 
--- ---- offsets in a slot; byte 0 holds the place, the hash count and two bits
+-- ---- offsets in a slot; byte 0 holds the place and the hash count
 abbrev pub handle_at : ℕ
 handle_at = 1
 

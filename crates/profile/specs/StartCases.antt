@@ -1,7 +1,6 @@
 -- PROFILE 8.4 in worked cases: one run with two choices of starts, and what the words of its statement exclude.
 use Rattle.std.specs.Prelude.{ℕ, ◌≡◌, List, [], ◌∷◌, ◌++◌, take, replicate}
 use Rattle.profile.specs.Bytes.{Bytes}
-use Rattle.profile.specs.Edition.{First}
 use Rattle.profile.specs.Slot.{reserved, enabled, disabled, Slot, empty, taken}
 use Rattle.profile.specs.Tally.{Tally, tally_with}
 use Rattle.profile.specs.Agent.{Call, agent}
@@ -114,7 +113,7 @@ pub record Hold : Type 0 where
   -- the records afterwards, not those before: of two rights with other counts, both removed, none is left
   pub both_gone : SameRun after7 counted7 (calling right5 0 remove1 ∷ []) (calling right5 0 remove1 ∷ [])
   -- the same list: not with another `more`, with fewer handles, with one that the other slots do not have, or, where none is left off, with another
-  pub list_more : ¬ SameList First [] here there [] (hex "28 00 00 0B 80" ++ H1) (hex "28 00 00 0B 00" ++ H3)
-  pub list_fewer : ¬ SameList First [] here there [] (hex "28 00 00 15 80" ++ H1 ++ H3) (hex "28 00 00 0B 80" ++ H3)
-  pub list_unknown : ¬ SameList First [] here there [] (hex "28 00 00 0B 80" ++ H2) (hex "28 00 00 0B 80" ++ H3)
-  pub list_other : ¬ SameList First [] here there [] (hex "28 00 00 0B 00" ++ H1) (hex "28 00 00 0B 00" ++ H3)
+  pub list_more : ¬ SameList [] here there [] (hex "28 00 00 0B 80" ++ H1) (hex "28 00 00 0B 00" ++ H3)
+  pub list_fewer : ¬ SameList [] here there [] (hex "28 00 00 15 80" ++ H1 ++ H3) (hex "28 00 00 0B 80" ++ H3)
+  pub list_unknown : ¬ SameList [] here there [] (hex "28 00 00 0B 80" ++ H2) (hex "28 00 00 0B 80" ++ H3)
+  pub list_other : ¬ SameList [] here there [] (hex "28 00 00 0B 00" ++ H1) (hex "28 00 00 0B 00" ++ H3)

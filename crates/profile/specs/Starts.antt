@@ -1,10 +1,9 @@
 -- PROFILE 8.4: calls that differ in their starts alone, and what does not depend on where the search of a setup begins.
 use Rattle.std.specs.Prelude.{ℕ, ◌≡◌, ◌↔◌, List, [], ◌∷◌, Bool, true, false, eqb, ltb, length}
 use Rattle.profile.specs.Bytes.{Bytes, Bytes256, if◌then◌else◌, In, over, joined}
-use Rattle.profile.specs.Edition.{Edition}
 use Rattle.profile.specs.Slot.{Slot}
 use Rattle.profile.specs.Table.{slots_of, whole_slots, well_table}
-use Rattle.profile.specs.Frame.{frame, edition_in}
+use Rattle.profile.specs.Frame.{frame}
 use Rattle.profile.specs.Request.{list, asks, read_request}
 use Rattle.profile.specs.Agent.{Call, agent}
 use Rattle.profile.specs.History.{Ledger, history}
@@ -45,12 +44,12 @@ OtherStarts n (c ∷ cs) (d ∷ ds) = OtherStart n c d × OtherStarts n cs ds
 -- ---- what does not depend on the start
 -- two replies to a list query, of the slots t and of the slots u: they say alike whether there are more, and have as many handles, each of which the other
 -- slots have to show too; where none is left off, they are the same handles
-pub record SameList (e : Edition) (q : List Bytes) (t u : List Slot) (buffer reply other : Bytes) : Type 0 where
+pub record SameList (q : List Bytes) (t u : List Slot) (buffer reply other : Bytes) : Type 0 where
   pub more : Bool
   pub listed : List Bytes
   pub other_listed : List Bytes
-  pub replies : reply ≡ over (frame e 8 0 ((if more then 128 else 0) ∷ joined listed)) buffer
-  pub other_replies : other ≡ over (frame e 8 0 ((if more then 128 else 0) ∷ joined other_listed)) buffer
+  pub replies : reply ≡ over (frame 8 0 ((if more then 128 else 0) ∷ joined listed)) buffer
+  pub other_replies : other ≡ over (frame 8 0 ((if more then 128 else 0) ∷ joined other_listed)) buffer
   pub as_many : length listed ≡ length other_listed
   pub shown : (h : Bytes) → In h listed → Shown q u h
   pub other_shown : (h : Bytes) → In h other_listed → Shown q t h
@@ -65,7 +64,7 @@ pub record SameCall (table other : Bytes) (c d : Call) : Type 0 where
   pub tally : (agent table c).tally ≡ (agent other d).tally
   pub reply : ((limit : ℕ) (q : List Bytes) → read_request c.request ≡ asks (list limit q) → ⊥) → (agent table c).reply ≡ (agent other d).reply
   pub lists : (limit : ℕ) (q : List Bytes) → read_request c.request ≡ asks (list limit q) → eqb (agent table c).number 0 ≡ true
-      → SameList (edition_in c.request) q (slots_of table) (slots_of other) c.buffer (agent table c).reply (agent other d).reply
+      → SameList q (slots_of table) (slots_of other) c.buffer (agent table c).reply (agent other d).reply
 
 -- two sequences of calls: the same numbers, the same exchanges, and so the same ledger; the same records afterwards
 pub record SameRun (table other : Bytes) (cs ds : List Call) : Type 0 where

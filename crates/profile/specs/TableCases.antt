@@ -2,7 +2,7 @@
 use Rattle.std.specs.Prelude.{ℕ, ◌≡◌, List, [], ◌∷◌, ◌++◌, map, Bool, true, false, replicate}
 use Rattle.profile.specs.Bytes.{Bytes}
 use Rattle.profile.specs.Slot.{NoneKept, Kept, kept_bit, count_number, count_holds, count_with, raises, Right, right_with, recount, reserved, enabled, disabled, Slot, empty, taken, in_use, distinct}
-use Rattle.profile.specs.Table.{place_of, hash_count_of, kept_of, long_of, unpack, pack, slots_of, table_of, whole_slots, well_slot, well_table}
+use Rattle.profile.specs.Table.{place_of, hash_count_of, kept_of, spare_of, unpack, pack, slots_of, table_of, whole_slots, well_slot, well_table}
 use Rattle.profile.specs.CaseBytes.{hex, changed, H0, H1, H2, H3, H1_last, H1_first, K, L, A, B, five}
 use Rattle.profile.specs.CaseTables.{blank, after1, after7, after9, after11, counted7, lent7, used_up, bare, bare_lent, roomy, longest, hashed1, hashed2, lent2, hashed8, nameless, keyless, twins}
 
@@ -26,10 +26,12 @@ ill t = (t, false)
 
 unfoldable pub shapes : List (Bytes × Bool)
 shapes =
-    -- the mark of long hashes where there is no hash (where there are hashes: page EditionCases); byte 191
+    -- the spare bit and byte 191
     ill (changed 0 0x41 after1)
+    ∷ ill (changed 0 0x85 after7)
     ∷ ill (changed 0 0x81 bare)
-    ∷ ill (changed 0 0xC1 bare_lent)
+    ∷ ill (changed 0 0xC5 after9)
+    ∷ ill (changed 0 0x87 counted7)
     ∷ ill (changed 191 0x01 after1)
     ∷ ill (changed 191 0x80 after7)
     ∷ ill (changed 191 0x01 hashed8)
@@ -185,11 +187,11 @@ pub record Hold : Type 0 where
   pub says : count_with 0 0 ∷ count_with 1 0 ∷ count_with 1 7 ∷ [] ≡ NoneKept ∷ Kept 0 ∷ Kept 7 ∷ []
   pub bits : map kept_bit (NoneKept ∷ Kept 0 ∷ Kept 7 ∷ []) ≡ 0 ∷ 1 ∷ 1 ∷ []
   pub numbers : map count_number (NoneKept ∷ Kept 0 ∷ Kept 7 ∷ []) ≡ 0 ∷ 0 ∷ 7 ∷ []
-  -- PROFILE 2.2, byte 0: place, hash count, the bit of a count, the mark of long hashes
+  -- PROFILE 2.2, byte 0: place, hash count, the bit of a count, the spare bit
   pub places : map (λ b. place_of (b ∷ [])) (0x3F ∷ 0x40 ∷ 0x80 ∷ 0xC0 ∷ []) ≡ 0 ∷ 1 ∷ 2 ∷ 3 ∷ []
   pub counts : map (λ b. hash_count_of (b ∷ [])) (0xC3 ∷ 0x04 ∷ 0xE0 ∷ 0x3C ∷ []) ≡ 0 ∷ 1 ∷ 8 ∷ 15 ∷ []
   pub kept : map (λ b. kept_of (b ∷ [])) (0xFC ∷ 0x01 ∷ 0x82 ∷ 0xFF ∷ []) ≡ 0 ∷ 0 ∷ 1 ∷ 1 ∷ []
-  pub longs : map (λ b. long_of (b ∷ [])) (0xFC ∷ 0x01 ∷ 0x82 ∷ 0xFF ∷ []) ≡ 0 ∷ 1 ∷ 0 ∷ 1 ∷ []
+  pub spares : map (λ b. spare_of (b ∷ [])) (0xFC ∷ 0x01 ∷ 0x82 ∷ 0xFF ∷ []) ≡ 0 ∷ 1 ∷ 0 ∷ 1 ∷ []
   -- slots read, and written; tables of several slots too
   pub read : map (λ c. unpack c.0) slots ≡ map (λ c. c.1) slots
   pub written : map (λ c. pack c.1) slots ≡ map (λ c. c.0) slots

@@ -1,19 +1,18 @@
 -- What is proved of the definitions, whole: one statement, with a field for each theorem. Its proof is `theorems`,
 -- crates/profile/proofs/Theorems.antt; to believe a theorem, read it here.
-use Rattle.std.specs.Prelude.{ℕ, ◌≤◌, ◌<◌, ◌≡◌, ◌↔◌, List, [], ◌∷◌, map, true, false, T, eqb, ltb, ℤ, nat_abs, length, drop, set}
+use Rattle.std.specs.Prelude.{ℕ, ◌≤◌, ◌<◌, ◌≡◌, ◌↔◌, List, [], map, true, false, T, eqb, ltb, ℤ, nat_abs, length, drop, set}
 use Rattle.std.proofs.Math.Option.{some}
 use Rattle.std.proofs.Math.ListN.{get_elem?}
-use Rattle.profile.specs.Bytes.{Bytes, Bytes256, byte, Each, zeros, In, over, all, any, joined}
+use Rattle.profile.specs.Bytes.{Bytes, Bytes256, zeros, In, over, all, any, joined}
 use Rattle.profile.specs.Sizes.{slot_size, reply_room}
-use Rattle.profile.specs.Edition.{Edition, hash_size, most_hashes, of_version}
-use Rattle.profile.specs.Slot.{Count, raises, Right, reserved, enabled, disabled, Slot, taken, distinct, HashesFit, SlotFits, TableFits}
+use Rattle.profile.specs.Slot.{Count, raises, Right, reserved, enabled, disabled, Slot, taken, distinct, SlotFits, TableFits}
 use Rattle.profile.specs.Table.{unpack, pack, well_slot, slot_bytes, slot_count, slots_of, table_of, whole_slots, well_table}
 use Rattle.profile.specs.Turning.{unpack_before, keeps_count, Turned, turn}
 use Rattle.profile.specs.Tally.{tally_with, in_slot, plus, tally_of, tally_in}
 use Rattle.profile.specs.Salvage.{Salvaged, salvage}
-use Rattle.profile.specs.Frame.{count_raised, edition_needed, Kind, kind_of, is_status, version_in, edition_in, kind_number, status_in}
-use Rattle.profile.specs.Request.{Request, setup, retrieve, enable, list, asks, read_request, write_request, with_verdict, RequestFits}
-use Rattle.profile.specs.Agent.{Given, Answer, deny, done, find, other_edition, act, lowest_empty, first_empty_from, reply_frame, Call, Outcome, refuse, replied, agent}
+use Rattle.profile.specs.Frame.{count_raised, Kind, kind_of, is_status, kind_number, status_in}
+use Rattle.profile.specs.Request.{Request, setup, enable, list, asks, read_request, write_request, with_verdict, RequestFits}
+use Rattle.profile.specs.Agent.{Given, Answer, deny, done, find, act, lowest_empty, first_empty_from, reply_frame, Call, Outcome, refuse, replied, agent}
 use Rattle.profile.specs.Device.{Fields, request_of, fields_in, Arrays, Written, write, malformed, read_reply, sent}
 use Rattle.profile.specs.BytesCases
 use Rattle.profile.specs.SizeCases
@@ -26,7 +25,6 @@ use Rattle.profile.specs.Cases.{cases, Hold}
 use Rattle.profile.specs.WriterCases
 use Rattle.profile.specs.ReplyCases
 use Rattle.profile.specs.ListingCases
-use Rattle.profile.specs.EditionCases
 use Rattle.profile.specs.HistoryCases
 use Rattle.profile.specs.RisingCases
 use Rattle.profile.specs.DemandCases
@@ -35,7 +33,6 @@ use Rattle.profile.specs.TallyCases
 use Rattle.profile.specs.UnlistedCases
 use Rattle.profile.specs.TotalCases
 use Rattle.profile.specs.Rising.{NoHigher, Raises, ReturnedAnyway, NotAbove}
-use Rattle.profile.specs.Editions.{other, HasLength, HeldBack}
 use Rattle.profile.specs.Demand3.{Demand3From, Demand3}
 use Rattle.profile.specs.Starts.{AlikeButPlaces, OtherStart, OtherStarts, SameCall, SameRun}
 use Rattle.profile.specs.Tallies.{CountsAll, Carries}
@@ -45,7 +42,7 @@ use Rattle.profile.specs.Total.{no_return, return_of, change_of, Totals, totals_
 use Rattle.profile.specs.Totals.{Within, totals_then, FrameBytes, no_totals, TotalsTold, TotalsFrom}
 use Rattle.profile.specs.History.{blank_ledger}
 use Rattle.profile.specs.Run.{numbers_then, blank_table, table_after_all, ledger_of, ledger_then}
-use Rattle.profile.specs.Laws.{Apart, first_byte, Refuses, AStatus, FoundIs, AskedFor, Full, FirstEmpty, SetsFirst, ListsExactly}
+use Rattle.profile.specs.Laws.{Apart, Refuses, AStatus, FoundIs, Full, FirstEmpty, SetsFirst, ListsExactly}
 
 -- ---- the words of the theorems below
 -- the slots that a well-formed table holds: of their sizes, their handles distinct, and packed they are the table
@@ -73,30 +70,26 @@ pub record Stays (table : Bytes) : Type 0 where
   pub well : well_table table ≡ true
 
 -- what the device's writer leaves with the number 0: the frame of the fields at the start of the buffer, which fits it and reads back to the fields
-pub record ReadsBack (version kind : ℕ) (f : Fields) (buffer : Bytes) (o : Written) : Type 0 where
-  pub e : Edition
-  pub of_version_lem : of_version version ≡ some e
+pub record ReadsBack (kind : ℕ) (f : Fields) (buffer : Bytes) (o : Written) : Type 0 where
   pub of_kind_lem : Kind
   pub number : kind_of kind ≡ some of_kind_lem
-  pub starts : o.buffer ≡ over (write_request e (request_of e of_kind_lem f)) buffer
-  pub short : length (write_request e (request_of e of_kind_lem f)) ≤ length buffer
-  pub read_in : edition_in (write_request e (request_of e of_kind_lem f)) ≡ e
-  pub read : read_request (write_request e (request_of e of_kind_lem f)) ≡ asks (request_of e of_kind_lem f)
+  pub starts : o.buffer ≡ over (write_request (request_of of_kind_lem f)) buffer
+  pub short : length (write_request (request_of of_kind_lem f)) ≤ length buffer
+  pub read : read_request (write_request (request_of of_kind_lem f)) ≡ asks (request_of of_kind_lem f)
 
 -- the device's writer, given the fields that a frame f was read to, in arrays of their lengths, writes f again: in kinds 1 to 7 the same bytes, and
 -- in every kind the same but for a verdict of 0, which becomes 1
 pub record WrittenAgain (f : Bytes) (q : Request) (buffer : Bytes) : Type 0 where
   pub arrays : Arrays (fields_in q)
-  pub same_bytes : kind_number f ≤ 7 → write (version_in f) (kind_number f) (fields_in q) buffer ≡ record { number = 0; buffer = over f buffer }
-  pub but_verdict : write (version_in f) (kind_number f) (fields_in q) buffer ≡ record { number = 0; buffer = over (with_verdict f) buffer }
+  pub same_bytes : kind_number f ≤ 7 → write (kind_number f) (fields_in q) buffer ≡ record { number = 0; buffer = over f buffer }
+  pub but_verdict : write (kind_number f) (fields_in q) buffer ≡ record { number = 0; buffer = over (with_verdict f) buffer }
 
 -- a reply of the agent's: that of an answer, of at most 4,279 bytes, and read by the device to the answer's kind, and to its status or what it gives
 pub record Readable (table : Bytes) (c : Call) (o : Outcome) : Type 0 where
   pub answer : Answer
-  pub replies : o ≡ replied (edition_in c.request) (kind_number c.request) answer table c.buffer
-  pub short : length (reply_frame (edition_in c.request) (kind_number c.request) answer) ≤ reply_room
-  pub read_in : edition_in (reply_frame (edition_in c.request) (kind_number c.request) answer) ≡ edition_in c.request
-  pub read : read_reply (reply_frame (edition_in c.request) (kind_number c.request) answer) ≡ sent (kind_number c.request) answer
+  pub replies : o ≡ replied (kind_number c.request) answer table c.buffer
+  pub short : length (reply_frame (kind_number c.request) answer) ≤ reply_room
+  pub read : read_reply (reply_frame (kind_number c.request) answer) ≡ sent (kind_number c.request) answer
 
 -- ---- the theorems
 pub record Theorems : Type 0 where
@@ -126,10 +119,9 @@ pub record Theorems : Type 0 where
       → (j : ℕ) (was is : Bytes) → (j ≡ i → ⊥) → get_elem? (slot_bytes table) j ≡ some was
       → get_elem? (slot_bytes (salvage (joined (set (slot_bytes table) i s)) report).table) j ≡ some is → Beside i s j was is
   -- PROFILE 6.4: a request reads back to the fields written; a frame that reads as a request is written again to the same bytes, but for its verdict
-  pub read_fits : (f : Bytes) (q : Request) → read_request f ≡ asks q → RequestFits (edition_in f) q
-  pub read_write : (e : Edition) (q : Request) → RequestFits e q → (read_request (write_request e q) ≡ asks q) × (edition_in (write_request e q) ≡ e)
-  pub written_reads : (version kind : ℕ) (f : Fields) (buffer : Bytes) → Arrays f → eqb (write version kind f buffer).number 0 ≡ true
-      → ReadsBack version kind f buffer (write version kind f buffer)
+  pub read_fits : (f : Bytes) (q : Request) → read_request f ≡ asks q → RequestFits q
+  pub read_write : (q : Request) → RequestFits q → read_request (write_request q) ≡ asks q
+  pub written_reads : (kind : ℕ) (f : Fields) (buffer : Bytes) → Arrays f → eqb (write kind f buffer).number 0 ≡ true → ReadsBack kind f buffer (write kind f buffer)
   pub written_again : (f : Bytes) (q : Request) → Bytes256 f → read_request f ≡ asks q → (buffer : Bytes) → length f ≤ length buffer → WrittenAgain f q buffer
   -- PROFILE 6.4: every reply is read back
   pub replies_read : (table : Bytes) (c : Call) → eqb (agent table c).number 0 ≡ true → Readable table c (agent table c)
@@ -184,33 +176,22 @@ pub record Theorems : Type 0 where
   pub from_0 : (t : List Slot) → first_empty_from 0 t ≡ lowest_empty t
   -- PROFILE 5: the slot found under a handle, the slot that a setup takes, the handles listed; no other slot and no other list meets these laws
   pub found_is : (h : Bytes) (t : List Slot) → FoundIs h t (find h t)
-  pub sets_first : (e : Edition) (start : ℕ) (t : List Slot) (h : Bytes) (n : ℕ) (g : Given) (u : List Slot) → start < length t → act e (first_empty_from start t) t (setup h n) ≡ done g u
+  pub sets_first : (start : ℕ) (t : List Slot) (h : Bytes) (n : ℕ) (g : Given) (u : List Slot) → start < length t → act (first_empty_from start t) t (setup h n) ≡ done g u
       → SetsFirst start t h n u
   pub sets_only : (start : ℕ) (t : List Slot) (h : Bytes) (n : ℕ) (u : List Slot) → start < length t → SetsFirst start t h n u
       → u ≡ set t (first_empty_from start t) (taken h (reserved n))
-  pub lists_exactly : (e : Edition) (free : ℕ) (t : List Slot) (limit : ℕ) (q : List Bytes) → (g : Given) × (act e free t (list limit q) ≡ done g t) × ListsExactly limit q t g
-  pub lists_only : (e : Edition) (free : ℕ) (t : List Slot) (limit : ℕ) (q : List Bytes) (g : Given) → ListsExactly limit q t g → act e free t (list limit q) ≡ done g t
+  pub lists_exactly : (free : ℕ) (t : List Slot) (limit : ℕ) (q : List Bytes) → (g : Given) × (act free t (list limit q) ≡ done g t) × ListsExactly limit q t g
+  pub lists_only : (free : ℕ) (t : List Slot) (limit : ℕ) (q : List Bytes) (g : Given) → ListsExactly limit q t g → act free t (list limit q) ≡ done g t
   -- PROFILE 2.9: a right on a card is listed, read, lent, retrieved, returned and removed whatever its hashes, and so where it has none
-  pub in_use : (e : Edition) (free : ℕ) (t : List Slot) → distinct t ≡ true → (i : ℕ) (h : Bytes) (r : Right) → get_elem? t i ≡ some (taken h (enabled r)) → OpenToUse e free t i h r
-  pub when_lent : (e : Edition) (free : ℕ) (t : List Slot) → distinct t ≡ true → (i : ℕ) (h : Bytes) (r : Right) → get_elem? t i ≡ some (taken h (disabled r)) → OpenToReturn e free t i h r
-  -- PROFILE 3.2: every reply is of the edition that was asked, or of the first where there is none, and of the kind that was asked
-  pub answered_in : (table : Bytes) (c : Call) → eqb (agent table c).number 0 ≡ true → byte 0 (agent table c).reply ≡ first_byte c.request
-  -- PROFILE 1.4 and 5.3: a right goes out in its own edition, one without a hash in either; one that is held back in an edition is 10 there, whatever the new handle,
-  -- and goes out in the other; 10 is given for nothing else
-  pub own_goes : (e : Edition) (r : Right) → HashesFit (hash_size e) (most_hashes e) r.hashes → other_edition e r ≡ false
-  pub other_goes : (e : Edition) (r : Right) → other_edition e r ≡ true → other_edition (other e) r ≡ false
-  pub refused_10 : (e : Edition) (free : ℕ) (t : List Slot) → distinct t ≡ true → (i : ℕ) (h : Bytes) (r : Right) → get_elem? t i ≡ some (taken h (enabled r))
-      → other_edition e r ≡ true → (k : Bytes) → act e free t (retrieve h k) ≡ deny edition_needed
-  pub only_10 : (e : Edition) (free : ℕ) (t : List Slot) (q : Request) → act e free t q ≡ deny edition_needed → HeldBack e t q
-  -- PROFILE 5.8: a right that is asked for by hashes of one length has a hash of that length
-  pub own_length : (w : ℕ) (a : Bytes) (q : List Bytes) → Each w (a ∷ q) → (r : Right) → AskedFor (a ∷ q) r → HasLength w r
+  pub in_use : (free : ℕ) (t : List Slot) → distinct t ≡ true → (i : ℕ) (h : Bytes) (r : Right) → get_elem? t i ≡ some (taken h (enabled r)) → OpenToUse free t i h r
+  pub when_lent : (free : ℕ) (t : List Slot) → distinct t ≡ true → (i : ℕ) (h : Bytes) (r : Right) → get_elem? t i ≡ some (taken h (disabled r)) → OpenToReturn free t i h r
   -- PROFILE 5.5: a count does not raise another exactly where it is no higher; a return with a higher one is 9, and nothing else is; with every other count the right
   -- is returned (`when_lent`), and so it can be returned in any case
   pub raise_means : (earlier later : Count) → (raises earlier later ≡ false) ↔ NoHigher earlier later
-  pub refused_9 : (e : Edition) (free : ℕ) (t : List Slot) → distinct t ≡ true → (i : ℕ) (h : Bytes) (r : Right) → get_elem? t i ≡ some (taken h (disabled r))
-      → (c : Count) → (NoHigher r.count c → ⊥) → act e free t (enable h c) ≡ deny count_raised
-  pub only_9 : (e : Edition) (free : ℕ) (t : List Slot) (q : Request) → act e free t q ≡ deny count_raised → Raises t q
-  pub returned_anyway : (e : Edition) (free : ℕ) (t : List Slot) → distinct t ≡ true → (i : ℕ) (h : Bytes) (r : Right) → get_elem? t i ≡ some (taken h (disabled r)) → ReturnedAnyway e free t i h r
+  pub refused_9 : (free : ℕ) (t : List Slot) → distinct t ≡ true → (i : ℕ) (h : Bytes) (r : Right) → get_elem? t i ≡ some (taken h (disabled r))
+      → (c : Count) → (NoHigher r.count c → ⊥) → act free t (enable h c) ≡ deny count_raised
+  pub only_9 : (free : ℕ) (t : List Slot) (q : Request) → act free t q ≡ deny count_raised → Raises t q
+  pub returned_anyway : (free : ℕ) (t : List Slot) → distinct t ≡ true → (i : ℕ) (h : Bytes) (r : Right) → get_elem? t i ≡ some (taken h (disabled r)) → ReturnedAnyway free t i h r
   -- PROFILE 8.3: where a slot of a well-formed table holds a right before a call and after it, the count is no higher afterwards; along whole sequences of calls this is
   -- a part of demand 3, below
   pub slot_never_rises : (table : Bytes) → Bytes256 table → whole_slots table ≡ true → well_table table ≡ true → (c : Call) (i : ℕ) (earlier later : Right)
@@ -220,8 +201,8 @@ pub record Theorems : Type 0 where
       → r.hashes ≡ [] → HoldsRight (slots_of (agent table c).table) i r → HoldsRightBut (slots_of table) i r
   -- from an all-zero table every right has a hash, and one that is enabled is found by each of its hashes
   pub all_have_one : (n : ℕ) → 1 ≤ n → n ≤ 15 → (cs : List Call) (i : ℕ) (r : Right) → HoldsRight (slots_of (table_after_all n cs)) i r → 1 ≤ length r.hashes
-  pub by_course : (n : ℕ) → 1 ≤ n → n ≤ 15 → (cs : List Call) (e : Edition) (free i : ℕ) (h : Bytes) (r : Right) → get_elem? (slots_of (table_after_all n cs)) i ≡ some (taken h (enabled r))
-      → FoundByCourse e free (slots_of (table_after_all n cs)) h r
+  pub by_course : (n : ℕ) → 1 ≤ n → n ≤ 15 → (cs : List Call) (free i : ℕ) (h : Bytes) (r : Right) → get_elem? (slots_of (table_after_all n cs)) i ≡ some (taken h (enabled r))
+      → FoundByCourse free (slots_of (table_after_all n cs)) h r
   -- PROFILE 9, and every rule in worked cases, table by table
   pub bytes_hold : BytesCases.Hold
   pub sizes_hold : SizeCases.Hold
@@ -234,7 +215,6 @@ pub record Theorems : Type 0 where
   pub writer_hold : WriterCases.Hold
   pub replies_hold : ReplyCases.Hold
   pub listings_hold : ListingCases.Hold
-  pub editions_hold : EditionCases.Hold
   pub histories_hold : HistoryCases.Hold
   pub rises_hold : RisingCases.Hold
   pub demands_hold : DemandCases.Hold

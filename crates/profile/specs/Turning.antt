@@ -3,11 +3,11 @@ use Rattle.std.specs.Prelude.{ℕ, ◌+◌, [], ◌∷◌, map, Bool, false, ◌
 use Rattle.profile.specs.Bytes.{Bytes, if◌then◌else◌, byte, word, all, joined}
 use Rattle.profile.specs.Sizes.{count_at, table_length, table_not_well_formed}
 use Rattle.profile.specs.Slot.{Count, NoneKept, Kept, kept_bit, Right, recount, reserved, enabled, disabled, Slot, empty, taken, distinct}
-use Rattle.profile.specs.Table.{place_of, kept_of, long_of, handle_of, length_of, right_of, well_rest, slot_bytes, slots_of, whole_slots}
+use Rattle.profile.specs.Table.{place_of, kept_of, spare_of, handle_of, length_of, right_of, well_rest, slot_bytes, slots_of, whole_slots}
 
--- ---- the rules before: the two lowest bits of byte 0 were both to spare, and so 0, and all hashes had 20 bytes; all else was as in PROFILE 2.4 and 2.5
+-- ---- the rules before: the two lowest bits of byte 0 were both to spare, and so 0; all else was as in PROFILE 2.4 and 2.5
 unfoldable pub well_before : Bytes → Bool
-well_before s = eqb (kept_of s) 0 && eqb (long_of s) 0 && well_rest s
+well_before s = eqb (kept_of s) 0 && eqb (spare_of s) 0 && well_rest s
 
 unfoldable pub well_table_before : Bytes → Bool
 well_table_before table = all well_before (slot_bytes table) && distinct (slots_of table)

@@ -1,7 +1,6 @@
 -- PROFILE 2.9 and 8.6 in worked cases: what the words of their statements take in, and what they exclude.
 use Rattle.std.specs.Prelude.{◌≡◌, List, [], ◌∷◌, map}
 use Rattle.std.proofs.Math.Option.{none, some}
-use Rattle.profile.specs.Edition.{First}
 use Rattle.profile.specs.Slot.{Kept, Right, right_with, recount, reserved, enabled, disabled, Slot, empty, taken}
 use Rattle.profile.specs.CaseBytes.{hex, H1, H2, H3, H4, K, L, A, B, five}
 use Rattle.profile.specs.Unlisted.{Listed, slot_right, HoldsRight, HoldsRightBut, FoundByCourse}
@@ -33,11 +32,11 @@ pub record Hold : Type 0 where
   pub other_payload : ¬ HoldsRightBut slots 2 (right_with K (Kept 7) [] (hex "BC"))
   pub other_hashes : ¬ HoldsRightBut slots 2 (right_with K (Kept 7) (A ∷ []) five)
   -- the list of all has the handles of both; by a hash of the second it has that one alone; a lent right is on none
-  pub bare_listed : Listed First 5 slots [] H2
-  pub both_listed : Listed First 5 slots [] H3
-  pub by_its_hash : Listed First 5 slots (B ∷ []) H3
-  pub bare_not : ¬ Listed First 5 slots (A ∷ []) H2
-  pub lent_not : ¬ Listed First 5 slots [] H4
+  pub bare_listed : Listed 5 slots [] H2
+  pub both_listed : Listed 5 slots [] H3
+  pub by_its_hash : Listed 5 slots (B ∷ []) H3
+  pub bare_not : ¬ Listed 5 slots (A ∷ []) H2
+  pub lent_not : ¬ Listed 5 slots [] H4
   -- found by course: not without a hash, and not under a handle that no list has
-  pub bare_unfound : ¬ FoundByCourse First 5 slots H2 bare
-  pub lent_unfound : ¬ FoundByCourse First 5 slots H4 both
+  pub bare_unfound : ¬ FoundByCourse 5 slots H2 bare
+  pub lent_unfound : ¬ FoundByCourse 5 slots H4 both

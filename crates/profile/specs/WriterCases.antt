@@ -17,7 +17,7 @@ abbrev pub buffer : ℕ → Bytes
 buffer n = replicate n 0xAA
 
 abbrev pub outcome : Case → Written
-outcome c = write 1 c.kind c.fields (buffer c.room)
+outcome c = write c.kind c.fields (buffer c.room)
 
 -- the frame at the start of the buffer, whose other bytes stay
 abbrev pub expected : Case → Written

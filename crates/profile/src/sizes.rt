@@ -12,10 +12,8 @@ pub const HANDLE_BYTES: usize = 10;
 
 pub const KEY_BYTES: usize = 16;
 
-// Room for a hash of either edition. A shorter one has zeros after it.
-pub const LONGEST_HASH: usize = 32;
+pub const HASH_BYTES: usize = 20;
 
-// So many hashes at most, in either edition.
 pub const MOST_HASHES: usize = 8;
 
 // A total has at most so many counted returns, and each adds or takes off at most so much (PROFILE 4.5).

@@ -16,5 +16,3 @@ pub const UNEXPECTED_REQUEST: u8 = 6;
 pub const NOT_ENOUGH_SPACE: u8 = 7;
 
 pub const COUNT_RAISED: u8 = 9;
-
-pub const EDITION_NEEDED: u8 = 10;

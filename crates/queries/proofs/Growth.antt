@@ -9,9 +9,8 @@ use lib.ListN.{length, take, length-append}
 use lib.Seq.{take-nil, take_all, take-append-le}
 use borrow.Author.Tests.{ltb-true, ltb-false}
 use Rattle.profile.specs.Bytes.{Bytes, if◌then◌else◌, part, Each}
-use Rattle.profile.specs.Sizes.{slot_size, handle_size, handle_at}
-use Rattle.profile.specs.Edition.{most_hashes}
-use Rattle.profile.specs.Table.{hash_count_of, edition_at, handle_of, unpack, slot_count, slots_of}
+use Rattle.profile.specs.Sizes.{slot_size, handle_size, most_hashes, handle_at}
+use Rattle.profile.specs.Table.{hash_count_of, handle_of, unpack, slot_count, slots_of}
 use Rattle.profile.specs.Agent.{listed_slot, listed}
 use Rattle.profile.proofs.Logic.{if_cases}
 use Rattle.profile.proofs.Strings.{length_part}
@@ -26,7 +25,7 @@ use Rattle.decisions.specs.Serving.{Ready}
 use Rattle.queries.proofs.ListedSlots.{listed_next, listed_whole, each_passed}
 
 -- ---- a slot of a well-formed table
-pub few_in_slot : (t b : Bytes) → Ready t b → (i : ℕ) → i < slot_count t → (s : Bytes) → s ≡ part (slot_size * i) slot_size t → hash_count_of s ≤ most_hashes (edition_at s)
+pub few_in_slot : (t b : Bytes) → Ready t b → (i : ℕ) → i < slot_count t → (s : Bytes) → s ≡ part (slot_size * i) slot_size t → hash_count_of s ≤ most_hashes
 few_in_slot t b ready i h s e = few_hashes s (rw e (slot_well t i ready.well h))
 
 -- ---- one handle more, where `most` fit

@@ -7,7 +7,6 @@ use Rattle.profile.specs.Bytes.{Bytes, part, over}
 use Rattle.profile.specs.Sizes.{slot_size}
 use Rattle.profile.specs.Slot.{Entry}
 use Rattle.profile.specs.Table.{right_of, slots_of, table_of}
-use Rattle.profile.specs.declared.Edition.TheVariants.{First}
 use Rattle.profile.specs.Frame.{frame}
 use Rattle.profile.specs.Request.{info}
 use Rattle.profile.specs.Agent.{Answer, find, info_at, act, given_bit, write_given}
@@ -29,7 +28,7 @@ module _ (t b h : Bytes) where
   told = info_at (slots_of t)
 
   pub info_refused : (d : Decision) → d ≡ decided lendable (found_at (find h (slots_of t))) → (n : ℕ) → d ≡ Refuse n
-      → (r : Bytes) → r ≡ over (frame First 9 n []) b → r ≡ reply_to 9 (info h) t b
+      → (r : Bytes) → r ≡ over (frame 9 n []) b → r ≡ reply_to 9 (info h) t b
   unfolding act
   info_refused d e n q r x =
       let expected : Expects lendable told = expects lendable told (λ _ i n. refl) (λ q. absurd (true≢false q)) (λ _ i r. refl) in
@@ -37,7 +36,7 @@ module _ (t b h : Bytes) where
       s.reply_is
 
   pub info_done : (i : ℕ) → Held t h i Enabled → (s : Bytes) → s ≡ part (slot_size * i) slot_size t
-      → (r : Bytes) → r ≡ over (frame First 9 (128 * given_bit (info_of (right_of s))) (write_given (info_of (right_of s)))) b → r ≡ reply_to 9 (info h) t b
+      → (r : Bytes) → r ≡ over (frame 9 (128 * given_bit (info_of (right_of s))) (write_given (info_of (right_of s)))) b → r ≡ reply_to 9 (info h) t b
   unfolding act
   info_done i w s es r x =
       let d : Serves 9 (answer_to t (info h)) t b (table_of (slots_of t)) r (change_in (slots_of t) (slots_of t)) = done_serves {g = info_of (right_of s)} (rw (w.found, ← w.lent, ← es)) refl x refl in

@@ -1,7 +1,7 @@
 // Kind 8: the handles of the list go straight from their slots into the reply.
-ghost use Rattle.std.specs.Prelude.{◌≡◌, map, ◌+◌, ◌*◌, ◌≤◌, ltb, length, take};
-ghost use Rattle.profile.specs.Bytes.{if◌then◌else◌, Each};
-ghost use Rattle.profile.specs.Sizes.{handle_size, handle_at};
+ghost use Rattle.std.specs.Prelude.{◌≡◌, ◌+◌, ◌*◌, ◌≤◌, ltb, length, take};
+ghost use Rattle.profile.specs.Bytes.{if◌then◌else◌};
+ghost use Rattle.profile.specs.Sizes.{handle_size, most_hashes, handle_at};
 ghost use Rattle.profile.specs.Table.{handle_of, slots_of};
 ghost use Rattle.profile.specs.Agent.{listed};
 ghost use Rattle.buffers.specs.Over.{over_at};
@@ -9,7 +9,7 @@ ghost use Rattle.list_replies.specs.Listed.{holding};
 ghost use Rattle.decisions.specs.Serving.{Ready};
 ghost use Rattle.queries.specs.Query.{most_of};
 
-use profile::sizes::{HANDLE_BYTES, LONGEST_HASH, MOST_SLOTS, SLOT_BYTES};
+use profile::sizes::{HANDLE_BYTES, HASH_BYTES, MOST_HASHES, MOST_SLOTS, SLOT_BYTES};
 
 // How many handles a reply may have (PROFILE 5.8). A limit of 0 is none, and then a handle for each slot is enough; any other
 // limit counts the bytes of handles, which go in whole.
@@ -32,24 +32,23 @@ fn put_next(reply: &mut [u8], slot: &[u8], k: usize, most: usize)
     }
 }
 
-// How many handles the list has, in the order of the slots and each once; the first of them, as many as fit, are put. The query's
-// hashes have `width` bytes each.
+// How many handles the list has, in the order of the slots and each once; the first of them, as many as fit, are put.
 pub(crate) fn put_handles(
     table: &[u8],
     reply: &mut [u8],
-    width: usize,
-    query: &[[u8; LONGEST_HASH]],
+    query: [[u8; HASH_BYTES]; MOST_HASHES],
+    hashes: usize,
     most: usize,
 ) -> usize
-    requires { Ready table.now reply.old × Each width (map (take width) query.now) }
-    ensures { (result ≡ length (listed (map (take width) query.now) (slots_of table.now))) × (reply.new ≡ holding (take most (listed (map (take width) query.now) (slots_of table.now))) reply.old) }
+    requires { Ready table.now reply.old × (hashes ≤ most_hashes) }
+    ensures { (result ≡ length (listed (take hashes query) (slots_of table.now))) × (reply.new ≡ holding (take most (listed (take hashes query) (slots_of table.now))) reply.old) }
 {
     let n = table.len() / SLOT_BYTES;
     let mut found = 0;
     let mut i = 0;
     while i < n {
         let slot = tables::part::slot_at(table, i);
-        if hashes::is_listed(slot, width, query) {
+        if hashes::is_listed(slot, &query[..hashes]) {
             put_next(reply, slot, found, most);
             found += 1;
         }

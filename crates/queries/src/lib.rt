@@ -1,13 +1,12 @@
 // The two kinds that only read the table: 8, the Handle List Query, and 9, the Rights Information Query.
 ghost use Rattle.std.specs.Prelude.{◌≡◌, ◌+◌, ◌*◌, ◌≤◌, length, drop};
 ghost use Rattle.profile.specs.Bytes.{pieces};
-ghost use Rattle.profile.specs.Edition.{hash_size, most_hashes};
+ghost use Rattle.profile.specs.Sizes.{hash_size, most_hashes};
 ghost use Rattle.profile.specs.Request.{list, info};
 ghost use Rattle.decisions.specs.Serving.{Ready};
 ghost use Rattle.queries.specs.Query.{reply_to};
 
 use decisions::decision::{Decision, LENDABLE};
-use profile::Edition;
 use profile::sizes::HANDLE_BYTES;
 
 mod handles; // handles.rt: the handles of kind 8, slot by slot
@@ -17,18 +16,16 @@ pub fn handle_list(
     table: &[u8],
     reply: &mut [u8],
     limit: u16,
-    edition: Edition,
     hashes: usize,
     frame: &[u8],
     at: usize,
 )
-    requires { Ready table.now reply.old × (hashes ≤ most_hashes edition) × (at + hash_size edition * hashes ≤ length frame.now) }
-    ensures { reply.new ≡ reply_to 8 (list limit (pieces (hash_size edition) hashes (drop at frame.now))) table.now reply.old }
+    requires { Ready table.now reply.old × (hashes ≤ most_hashes) × (at + hash_size * hashes ≤ length frame.now) }
+    ensures { reply.new ≡ reply_to 8 (list limit (pieces hash_size hashes (drop at frame.now))) table.now reply.old }
 {
-    let width = editions::hash_bytes(edition);
-    let query = octets::arrays::hashes_at(frame, at, hashes, width);
+    let query = octets::arrays::hashes_at(frame, at, hashes);
     let most = handles::most_handles(limit);
-    let found = handles::put_handles(table, reply, width, &query[..hashes], most);
+    let found = handles::put_handles(table, reply, query, hashes, most);
     if found <= most {
         list_replies::close_list(reply, found, false);
     } else {

@@ -1,21 +1,17 @@
 -- Why a frame is no request fixes the number and the reply. Assumes nothing.
 use Prim.Native.Nat.{ℕ, ◌+◌, ◌≤◌}
 use mathlib.Core.Path.{◌≡◌, refl, sym, ap, ◌∙◌}
-use mathlib.Core.List.{[], ◌∷◌}
+use mathlib.Core.List.{[]}
 use mathlib.Core.Bool.{◌&&◌, not}
 use lib.Dec.{leb, eqb}
 use lib.ListN.{length}
 use Rattle.profile.specs.Bytes.{Bytes, if◌then◌else◌, word, over}
 use Rattle.profile.specs.Sizes.{not_aframe}
-use Rattle.profile.specs.declared.Edition.TheVariants.{First}
-use Rattle.profile.specs.Edition.{Edition}
-use Rattle.profile.specs.Frame.{edition_in, kind_number, frame, frame_head, is_frame, version_holds, kind_of, Refusal, parameter, code}
+use Rattle.profile.specs.Frame.{kind_number, frame, is_frame, version_holds, kind_of, Refusal, parameter, code}
 use Rattle.profile.specs.Request.{Read, asks, refused, no_frame, zero_bits, read_kind, read_request}
 use Rattle.profile.specs.Tally.{Tally}
 use Rattle.profile.specs.Agent.{reply_frame, Outcome}
 use Rattle.profile.proofs.Logic.{and_parts, leb_le, if_else, not_false}
-use Rattle.buffers.specs.Over.{over_at}
-use Rattle.buffers.proofs.Heads.{of_edition}
 use Rattle.request_reader.specs.declared.asked.Why.{Why}
 use Rattle.request_reader.specs.declared.asked.Why.TheVariants.{NoFrame}
 use Rattle.request_reader.specs.Answer.{why_means}
@@ -42,15 +38,10 @@ long_read f =
 pub refused_long : (f : Bytes) (w : Why) (x : Refusal) → why_means w ≡ read_request f → why_means w ≡ refused x → 4 ≤ length f
 refused_long f w x e d = rw (sym e ∙ d) at (long_read f)
 
--- a status is written in the first edition, and the first byte is then that of the frame's own
-pub status_in_lem : (f buffer written buffer' : Bytes) (d : Edition) (k s : ℕ) → d ≡ edition_in f → k ≡ kind_number f
-    → written ≡ over (frame First k s []) buffer → buffer' ≡ over_at 0 (frame_head d k ∷ []) written → buffer' ≡ over (frame (edition_in f) (kind_number f) s []) buffer
-status_in_lem f buffer written buffer' d k s t n w p = rw (← t, ← n, of_edition d k s [] buffer, ← w) p
-
 pub refuses_no_frame : (f buffer : Bytes) (w : Why) → w ≡ NoFrame → Refuses f w buffer not_aframe buffer
 refuses_no_frame f buffer w e = record { on_any = λ free t table c b _. rw (e, ← b) refl }
 
 pub refuses_with : (f buffer : Bytes) (w : Why) (x : Refusal) (n : ℕ) (buffer' : Bytes) → why_means w ≡ refused x → n ≡ 0
-    → buffer' ≡ over (frame (edition_in f) (kind_number f) (code x) []) buffer → Refuses f w buffer n buffer'
+    → buffer' ≡ over (frame (kind_number f) (code x) []) buffer → Refuses f w buffer n buffer'
 unfolding reply_frame
-refuses_with f buffer w x n buffer' d z e = record { on_any = λ free t table c b y. rw (d, z, e, ← b) (ap {B = Outcome} (λ (i : Tally). record { number = 0; reply = over (frame (edition_in f) (kind_number f) (code x) []) c.buffer; table = table; tally = i }) y) }
+refuses_with f buffer w x n buffer' d z e = record { on_any = λ free t table c b y. rw (d, z, e, ← b) (ap {B = Outcome} (λ (i : Tally). record { number = 0; reply = over (frame (kind_number f) (code x) []) c.buffer; table = table; tally = i }) y) }

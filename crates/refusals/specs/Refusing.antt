@@ -2,7 +2,7 @@
 use Rattle.std.specs.Prelude.{ℕ, ◌≡◌, List}
 use Rattle.profile.specs.Bytes.{Bytes}
 use Rattle.profile.specs.Slot.{Slot}
-use Rattle.profile.specs.Frame.{edition_in, kind_number}
+use Rattle.profile.specs.Frame.{kind_number}
 use Rattle.profile.specs.Tally.{tally_in}
 use Rattle.profile.specs.Agent.{Call, obey, on_bytes}
 use Rattle.request_reader.specs.declared.asked.Why.{Why}
@@ -11,4 +11,4 @@ use Rattle.request_reader.specs.Answer.{why_means}
 -- a frame that is no request: the number and the reply are the profile's, on every table and with its tally, which stay as they are
 pub record Refuses (f : Bytes) (w : Why) (buffer : Bytes) (n : ℕ) (buffer' : Bytes) : Type 0 where
   pub on_any : (free : ℕ) (t : List Slot) (table : Bytes) (c : Call) → c.buffer ≡ buffer → c.tally ≡ tally_in table
-      → record { number = n; reply = buffer'; table = table; tally = c.tally } ≡ on_bytes (edition_in f) (kind_number f) (obey (edition_in f) (why_means w) free t) table c
+      → record { number = n; reply = buffer'; table = table; tally = c.tally } ≡ on_bytes (kind_number f) (obey (why_means w) free t) table c

@@ -2,7 +2,7 @@
 ghost use Rattle.std.specs.Prelude.{◌≡◌, [], ◌≤◌, length};
 ghost use Rattle.profile.specs.Bytes.{over};
 ghost use Rattle.profile.specs.Sizes.{reply_room};
-ghost use Rattle.profile.specs.Frame.{edition_in, kind_number, frame as frame_of};
+ghost use Rattle.profile.specs.Frame.{kind_number, frame as frame_of};
 ghost use Rattle.profile.specs.Request.{read_request};
 ghost use Rattle.request_reader.specs.Answer.{why_means};
 ghost use Rattle.refusals.specs.Refusing.{Refuses};
@@ -13,15 +13,12 @@ use profile::status::{
 };
 use request_reader::asked::Why;
 
-// A reply of the edition and the kind asked, with a status and no body (PROFILE 3.2); the number is 0.
+// A reply of the kind asked, with a status and no body; the number is 0.
 fn refuse_with(frame: &[u8], reply: &mut [u8], status: u8) -> u16
     requires { (4 ≤ length frame.now) × (reply_room ≤ length reply.old) }
-    ensures { (result ≡ 0) × (reply.new ≡ over (frame_of (edition_in frame.now) (kind_number frame.now) status []) reply.old) }
+    ensures { (result ≡ 0) × (reply.new ≡ over (frame_of (kind_number frame.now) status []) reply.old) }
 {
-    let edition = request_reader::reader::edition_in(frame);
-    let kind = bits::fields::frame_kind(frame[0]);
-    reply_writer::writer::reply_status(reply, kind, status);
-    buffers::put_edition(reply, edition, kind);
+    reply_writer::writer::reply_status(reply, bits::fields::frame_kind(frame[0]), status);
     DONE
 }
 

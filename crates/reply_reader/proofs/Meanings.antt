@@ -9,10 +9,9 @@ use lib.Dec.{eqb}
 use lib.ListN.{length, drop, length-drop}
 use lib.Seq.{drop-drop, take_all}
 use Rattle.profile.specs.Bytes.{Bytes, if◌then◌else◌, byte, part, pieces}
-use Rattle.profile.specs.Sizes.{handle_size, key_size}
-use Rattle.profile.specs.Edition.{hash_size}
+use Rattle.profile.specs.Sizes.{handle_size, key_size, hash_size}
 use Rattle.profile.specs.Slot.{Count, count_with}
-use Rattle.profile.specs.Frame.{Kind, setup_kind, install_kind, retrieve_kind, rek_kind, enable_kind, remove_kind, cancel_kind, list_kind, info_kind, kind_of, is_status, is_frame, version_holds, edition_in, kind_number, body, kept_in, status_in, hash_count_at18}
+use Rattle.profile.specs.Frame.{Kind, setup_kind, install_kind, retrieve_kind, rek_kind, enable_kind, remove_kind, cancel_kind, list_kind, info_kind, kind_of, is_status, is_frame, version_holds, kind_number, body, kept_in, status_in, hash_count_at18}
 use Rattle.profile.specs.Request.{number_of, fields}
 use Rattle.profile.specs.Agent.{Given, nothing, the_right, the_key, handles, counted}
 use Rattle.profile.specs.Device.{none?, bit_allowed, shaped, count_given, given, gave, read_success, read_reply}
@@ -36,24 +35,20 @@ module _ (f : Bytes) where
   to_the_end at = take_all (length f - at) (drop at f) (rw (length-drop at f) (omega arith))
 
   -- ---- kind by kind
-  -- how long the frame's hashes are
-  abbrev w : ℕ
-  w = hash_size (edition_in f)
-
-  right_given : the_right (record { key = part 4 key_size f; count = count_from 20 f; hashes = pieces w (byte 22 f / 16) (drop 23 f); payload = part (payload_from f) (length f - payload_from f) f })
+  right_given : the_right (record { key = part 4 key_size f; count = count_from 20 f; hashes = pieces hash_size (byte 22 f / 16) (drop 23 f); payload = part (payload_from f) (length f - payload_from f) f })
       ≡ given retrieve_kind f
   right_given = λ i. the_right (record { key = part 4 key_size f; count = count_is i; hashes = hashes_are i; payload = payload-is i })
     where
       count_is : count_from 20 f ≡ count_given key_size f
       count_is = ap (count_with (kept_in f)) (sym (body_word f 16))
 
-      hashes_are : pieces w (byte 22 f / 16) (drop 23 f) ≡ pieces w (hash_count_at18 (body f)) (drop 19 (body f))
+      hashes_are : pieces hash_size (byte 22 f / 16) (drop 23 f) ≡ pieces hash_size (hash_count_at18 (body f)) (drop 19 (body f))
       hashes_are = sym (rw (body_byte f 18, body_drop 19))
 
-      payload-is : part (payload_from f) (length f - payload_from f) f ≡ drop (19 + w * hash_count_at18 (body f)) (body f)
-      payload-is = to_the_end (payload_from f) ∙ sym (rw (body_byte f 18) (body_drop (19 + w * (byte 22 f / 16)) ∙ ap (λ (n : ℕ). drop n f) sum))
+      payload-is : part (payload_from f) (length f - payload_from f) f ≡ drop (19 + hash_size * hash_count_at18 (body f)) (body f)
+      payload-is = to_the_end (payload_from f) ∙ sym (rw (body_byte f 18) (body_drop (19 + hash_size * (byte 22 f / 16)) ∙ ap (λ (n : ℕ). drop n f) sum))
         where
-          sum : 4 + (19 + w * (byte 22 f / 16)) ≡ payload_from f
+          sum : 4 + (19 + hash_size * (byte 22 f / 16)) ≡ payload_from f
           sum = omega arith
 
   key_given : shaped rek_kind f ≡ true → the_key (part 4 key_size f) ≡ given rek_kind f

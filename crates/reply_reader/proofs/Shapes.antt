@@ -9,11 +9,9 @@ use lib.ListN.{length, length-drop}
 use lib.Seq.{get_or-drop}
 use borrow.Author.Tests.{eqb-true, eqb-false, leb-true, leb-false, eq-eqb, ne_eqb, le-leb, lt-leb}
 use Rattle.profile.specs.Bytes.{Bytes, byte, word, from1to}
-use Rattle.profile.specs.Sizes.{most_slots, most_payload, handle_size, key_size}
-use Rattle.profile.specs.declared.Edition.TheVariants.{First, Second}
-use Rattle.profile.specs.Edition.{Edition, hash_size, most_hashes, of_version}
+use Rattle.profile.specs.Sizes.{most_slots, most_payload, handle_size, key_size, hash_size, most_hashes}
 use Rattle.profile.specs.Slot.{Count, count_holds, count_with}
-use Rattle.profile.specs.Frame.{kind_of, is_frame, version_in, version_holds, known, or_first, edition_in, body, kept_in, right_fits, retrieve_kind, rek_kind, list_kind, info_kind}
+use Rattle.profile.specs.Frame.{kind_of, is_frame, version_holds, body, kept_in, right_fits, retrieve_kind, rek_kind, list_kind, info_kind}
 use Rattle.profile.specs.Device.{none?, gives_count, shaped}
 use Rattle.profile.proofs.Logic.{and_parts}
 use Rattle.reply_reader.specs.Told.{count_from, payload_from}
@@ -38,16 +36,6 @@ eqb_same a b c d p q = go (eqb c d) refl
 none_short : (s : Bytes) → none? s ≡ leb (length s) 0
 none_short [] = refl
 none_short (x ∷ s) = sym (lt-leb (suc (length s)) 0 (omega arith))
-
--- no bytes have no version
-pub no_version : (f : Bytes) → length f < 1 → 0 ≡ version_in f
-no_version [] h = refl
-no_version (x ∷ f) h = absurd (omega (arith, h))
-
--- so many hashes as a byte can say, of either edition, are not many bytes
-pub hashes_short : (e : Edition) {w : ℕ} (n : ℕ) → w ≡ hash_size e → n < 256 → w * n ≤ 8160
-hashes_short First n e h = rw e (omega (arith, h))
-hashes_short Second n e h = rw e (omega (arith, h))
 
 -- the kinds that give a count, by number
 neither : (k : ℕ) → 9 < k → (eqb k 3 || eqb k 9) ≡ false
@@ -90,12 +78,8 @@ module _ (f : Bytes) where
   pub frame_short : length f < 4 → false ≡ (is_frame f && version_holds f)
   frame_short h = rw (lt-leb 4 (length f) h)
 
-  pub frame_tests : {n v : ℕ} {b : Bool} → 4 ≤ length f → n ≡ word 2 f → v ≡ version_in f → b ≡ known (of_version v) → (eqb (length f) (4 + n) && b) ≡ (is_frame f && version_holds f)
-  frame_tests h en ev eb = rw (le-leb 4 (length f) h, en, eb, ev)
-
-  -- its edition, by the version that was read
-  pub edition_read : {v : ℕ} {d : Edition} → v ≡ version_in f → d ≡ or_first (of_version v) → d ≡ edition_in f
-  edition_read ev ed = ed ∙ ap (λ (n : ℕ). or_first (of_version n)) ev
+  pub frame_tests : {n v : ℕ} → 4 ≤ length f → n ≡ word 2 f → v ≡ byte 0 f / 32 → (eqb (length f) (4 + n) && eqb v 1) ≡ (is_frame f && version_holds f)
+  frame_tests h en ev = rw (le-leb 4 (length f) h, en, ev)
 
   -- ---- bodies
   pub none_tests : leb (length f) 4 ≡ none? (body f)
@@ -104,39 +88,36 @@ module _ (f : Bytes) where
   pub right_short : length f < 24 → false ≡ shaped retrieve_kind f
   right_short h = rw (body_length, lt-leb 20 (length f - 4) (omega arith))
 
-  -- the payload of kind 3, after so many bytes of hashes
+  -- the payload of kind 3, after n hashes
   abbrev size : ℕ → ℕ
-  size n = length f - 4 - (19 + n)
+  size n = length f - 4 - (19 + hash_size * n)
 
-  sized : (n : ℕ) → (ltb (23 + n) (length f) && leb (length f) (23 + n + most_payload)) ≡ from1to most_payload (size n)
-  sized n = ap₂ (λ (a b : Bool). a && b)
-      (leb_same (suc (23 + n)) (length f) 1 (size n) (λ h. omega arith) (λ h. omega arith))
-      (leb_same (length f) (23 + n + most_payload) (size n) most_payload (λ h. omega arith) (λ h. omega arith))
+  pub right_tests : {n r : ℕ} {b : Bool} → 24 ≤ length f → n ≡ byte 22 f / 16 → r ≡ byte 22 f % 16 → b ≡ count_holds (kept_in f) (word 20 f)
+      → (leb n most_hashes && eqb r 0 && (ltb (23 + hash_size * n) (length f) && leb (length f) (23 + hash_size * n + most_payload)) && b) ≡ shaped retrieve_kind f
+  right_tests {n} {r} {b} h en er eb = rw (body_length, body_byte 18, body_word 16, le-leb 20 (length f - 4) (omega arith), ← en, ← er, ← eb, some, most)
+    where
+      some : ltb (23 + hash_size * n) (length f) ≡ ltb 0 (size n)
+      some = leb_same (suc (23 + hash_size * n)) (length f) 1 (size n) (λ h. omega arith) (λ h. omega arith)
 
-  pub right_tests : {n r m a : ℕ} {b : Bool} → 24 ≤ length f → n ≡ byte 22 f / 16 → r ≡ byte 22 f % 16 → m ≡ most_hashes (edition_in f) → a ≡ 23 + hash_size (edition_in f) * n
-      → b ≡ count_holds (kept_in f) (word 20 f) → (leb n m && eqb r 0 && (ltb a (length f) && leb (length f) (a + most_payload)) && b) ≡ shaped retrieve_kind f
-  right_tests {n} {r} h en er em ea eb =
-      rw (body_length, body_byte 18, body_word 16, le-leb 20 (length f - 4) (omega arith), em, ea, ← en, ← er, ← eb, sized (hash_size (edition_in f) * n))
+      most : leb (length f) (23 + hash_size * n + most_payload) ≡ leb (size n) most_payload
+      most = leb_same (length f) (23 + hash_size * n + most_payload) (size n) most_payload (λ h. omega arith) (λ h. omega arith)
 
   pub right_room : shaped retrieve_kind f ≡ true → (24 ≤ length f) × (payload_from f ≤ length f)
-  right_room e = (long, omega (arith, leb-true (suc (payload_from f)) (length f) (and_parts (ltb (payload_from f) (length f)) (leb (length f) (payload_from f + most_payload)) ended).0))
+  right_room e = (long, omega (arith, leb-true (suc (payload_from f)) (length f) (and_parts (ltb (payload_from f) (length f)) (leb (length f) (payload_from f + most_payload)) sized).0))
     where
-      fitting : Bool
-      fitting = right_fits (hash_size (edition_in f)) (most_hashes (edition_in f)) (body f)
-
-      fits : (leb 20 (length (body f)) && fitting) ≡ true
-      fits = (and_parts (leb 20 (length (body f)) && fitting) (count_holds (kept_in f) (word key_size (body f))) e).0
+      fits : (leb 20 (length (body f)) && right_fits hash_size most_hashes (body f)) ≡ true
+      fits = (and_parts (leb 20 (length (body f)) && right_fits hash_size most_hashes (body f)) (count_holds (kept_in f) (word key_size (body f))) e).0
 
       long : 24 ≤ length f
-      long = omega (arith, body_length, leb-true 20 (length (body f)) (and_parts (leb 20 (length (body f))) fitting fits).0)
+      long = omega (arith, body_length, leb-true 20 (length (body f)) (and_parts (leb 20 (length (body f))) (right_fits hash_size most_hashes (body f)) fits).0)
 
       few : Bool
-      few = leb (byte 22 f / 16) (most_hashes (edition_in f)) && eqb (byte 22 f % 16) 0
+      few = leb (byte 22 f / 16) most_hashes && eqb (byte 22 f % 16) 0
 
-      ended : (ltb (payload_from f) (length f) && leb (length f) (payload_from f + most_payload)) ≡ true
-      ended =
+      sized : (ltb (payload_from f) (length f) && leb (length f) (payload_from f + most_payload)) ≡ true
+      sized =
           let size : Bool = ltb (payload_from f) (length f) && leb (length f) (payload_from f + most_payload) in
-          (and_parts few size (and_parts (few && size) (count_holds (kept_in f) (word 20 f)) (right_tests long refl refl refl refl refl ∙ e)).0).1
+          (and_parts few size (and_parts (few && size) (count_holds (kept_in f) (word 20 f)) (right_tests long refl refl refl ∙ e)).0).1
 
   pub key_tests : eqb (length f) (4 + key_size) ≡ shaped rek_kind f
   key_tests = eqb_same (length f) (4 + key_size) (length (body f)) key_size (λ h. rw body_length (omega arith)) (λ h. omega (arith, body_length))

@@ -3,23 +3,18 @@ use mathlib.Core.Path.{◌≡◌, refl, sym, ap, ◌∙◌}
 use mathlib.Core.List.{List, [], ◌∷◌}
 use mathlib.Core.Option.{Option, none, some}
 use mathlib.Core.Bool.{Bool, true, false, ◌&&◌, ◌||◌, not}
-use Prim.Native.Nat.{ℕ, zero, suc, ◌-◌, ◌<◌}
+use Prim.Native.Nat.{ℕ, zero, suc, ◌<◌}
 use native.Mathlib.Omega.{arith}
 use lib.Dec.{eqb}
-use lib.ListN.{length, get_or-eq_default}
+use lib.ListN.{get_or-eq_default}
 use borrow.Author.Tests.{eq-eqb, ne_eqb, not-true, not-false}
-use Rattle.profile.specs.Bytes.{Bytes, if◌then◌else◌, part}
-use Rattle.profile.specs.Sizes.{key_size}
-use Rattle.profile.specs.Edition.{version_of}
-use Rattle.profile.specs.Slot.{Count}
-use Rattle.profile.specs.Frame.{Kind, setup_kind, install_kind, retrieve_kind, rek_kind, enable_kind, remove_kind, cancel_kind, list_kind, info_kind, kind_of, is_status, is_frame, version_in, version_holds, edition_in, kind_number, body, kept_in, status_in}
+use Rattle.profile.specs.Bytes.{Bytes, if◌then◌else◌}
+use Rattle.profile.specs.Frame.{Kind, setup_kind, install_kind, retrieve_kind, rek_kind, enable_kind, remove_kind, cancel_kind, list_kind, info_kind, kind_of, is_status, is_frame, version_holds, kind_number, body, kept_in, status_in}
 use Rattle.profile.specs.Device.{none?, gives_count, bit_allowed, shaped}
-use Rattle.profile.proofs.Logic.{and_parts}
-use Rattle.profile.proofs.Frames.{version_is}
 use Rattle.reply_reader.specs.declared.answer.Answer.{Answer}
-use Rattle.reply_reader.specs.declared.answer.Answer.TheVariants.{Failed, Right}
+use Rattle.reply_reader.specs.declared.answer.Answer.TheVariants.{Failed}
 use Rattle.reply_reader.specs.declared.answer.Told.{Told}
-use Rattle.reply_reader.specs.Told.{number, keyless, unread, count_from, hashes_in, payload_from, right_in, told_empty, told_shaped, told_of, told_success, told}
+use Rattle.reply_reader.specs.Told.{keyless, unread, told_empty, told_shaped, told_of, told_success, told}
 
 -- the code's test p is the definition's t, and a branch was taken by `!p`
 pub passed : {p t : Bool} → p ≡ t → not p ≡ false → t ≡ true
@@ -42,12 +37,6 @@ module _ (k : Kind) (f : Bytes) {p : Bool} {r : Told} (e : p ≡ shaped k f) whe
 
   pub is_shaped : not p ≡ false → r ≡ told_shaped k f → r ≡ told_of k f
   is_shaped h q = q ∙ rw (passed e h)
-
--- ---- kind 3, by what was read of it
-pub right_told : (f : Bytes) {key : Bytes} {c : Count} {n at : ℕ} → key ≡ part 4 key_size f → c ≡ count_from 20 f → n ≡ hashes_in f → at ≡ payload_from f
-    → record { answer = Right c n 23 at (length f - at); key = key } ≡ right_in f
-unfolding right_in
-right_told f ek ec en ea = λ i. record { answer = Right (ec i) (en i) 23 (ea i) (length f - ea i); key = ek i }
 
 -- ---- by kind
 pub of_kind_lem : {kind : ℕ} (n : ℕ) (f : Bytes) {r : Told} → kind ≡ n → r ≡ told_success (kind_of n) f → r ≡ told_success (kind_of kind) f
@@ -100,12 +89,3 @@ module _ (f : Bytes) (k s : ℕ) {t : Bool} {r : Told} (e : told f ≡ told_rest
 
   pub told_failed : not t ≡ false → (s ≡ 0 → ⊥) → r ≡ told_empty (Failed k s) f → r ≡ told f
   told_failed h z q = q ∙ sym (e ∙ rw (passed et h, ne_eqb s 0 z))
-
--- ---- a reply that is not refused has the version of an edition, by which its hashes are read
-pub accepted_version : (f : Bytes) → number (told f).answer ≡ 0 → version_in f ≡ version_of (edition_in f)
-unfolding told keyless
-accepted_version f z = version_is f (go (is_frame f && version_holds f) refl)
-  where
-    go : (b : Bool) → (is_frame f && version_holds f) ≡ b → version_holds f ≡ true
-    go true e = (and_parts (is_frame f) (version_holds f) e).1
-    go false e = absurd (omega (arith, rw e at z))

@@ -2,10 +2,9 @@
 use Rattle.std.specs.Prelude.{ℕ, ◌+◌, ◌-◌, ◌*◌, ◌/◌, ◌≡◌, ◌&&◌, not, length, drop, replicate, eqb}
 use Rattle.std.proofs.Math.Option.{Option, none, some}
 use Rattle.profile.specs.Bytes.{Bytes, if◌then◌else◌, byte, part, word, pieces}
-use Rattle.profile.specs.Sizes.{handle_size, key_size, not_areply}
-use Rattle.profile.specs.Edition.{hash_size}
+use Rattle.profile.specs.Sizes.{handle_size, key_size, hash_size, not_areply}
 use Rattle.profile.specs.Slot.{Count, count_with, right_with}
-use Rattle.profile.specs.Frame.{Kind, setup_kind, install_kind, retrieve_kind, rek_kind, enable_kind, remove_kind, cancel_kind, list_kind, info_kind, kind_of, is_status, is_frame, version_holds, edition_in, kind_number, body, kept_in, status_in}
+use Rattle.profile.specs.Frame.{Kind, setup_kind, install_kind, retrieve_kind, rek_kind, enable_kind, remove_kind, cancel_kind, list_kind, info_kind, kind_of, is_status, is_frame, version_holds, kind_number, body, kept_in, status_in}
 use Rattle.profile.specs.Agent.{nothing, the_right, the_key, handles, counted}
 use Rattle.profile.specs.Device.{none?, bit_allowed, shaped, Reply, malformed, failed, gave, read_reply}
 use Rattle.reply_reader.specs.declared.answer.Answer.{Answer}
@@ -28,12 +27,12 @@ refusal malformed = not_areply
 refusal (failed kind status) = 0
 refusal (gave kind g) = 0
 
--- of a frame f: a refusal, a status, or what was given, read at the offsets told, hashes by the edition of the frame
+-- of a frame f: a refusal, a status, or what was given, read at the offsets told
 abbrev pub meant : Bytes → Bytes → Answer → Reply
 meant f key Malformed = malformed
 meant f key (Failed kind status) = failed kind status
 meant f key (Nothing kind) = gave kind nothing
-meant f key (Right count n hashes at size) = gave 3 (the_right (right_with key count (pieces (hash_size (edition_in f)) n (drop hashes f)) (part at size f)))
+meant f key (Right count n hashes at size) = gave 3 (the_right (right_with key count (pieces hash_size n (drop hashes f)) (part at size f)))
 meant f key Key = gave 4 (the_key key)
 meant f key (Handles more n at) = gave 8 (handles more (pieces handle_size n (drop at f)))
 meant f key (Counted count at size) = gave 9 (counted count (part at size f))
@@ -57,7 +56,7 @@ abbrev pub hashes_in : Bytes → ℕ
 hashes_in f = byte 22 f / 16
 
 abbrev pub payload_from : Bytes → ℕ
-payload_from f = 23 + hash_size (edition_in f) * hashes_in f
+payload_from f = 23 + hash_size * hashes_in f
 
 unfoldable pub right_in : Bytes → Told
 right_in f = record { answer = Right (count_from 20 f) (hashes_in f) 23 (payload_from f) (length f - payload_from f); key = part 4 key_size f }

@@ -2,11 +2,11 @@
 // where one is given, its status is one of the profile's, and its body is of its kind's shape at success and empty at every other status.
 ghost use Rattle.std.specs.Prelude.{◌≡◌, ◌+◌, ◌≤◌, length};
 ghost use Rattle.profile.specs.Sizes.{key_size};
-ghost use Rattle.profile.specs.Frame.{kind_of, version_in, Retrieve, Rek, List', Info};
+ghost use Rattle.profile.specs.Frame.{kind_of, Retrieve, Rek, List', Info};
 ghost use Rattle.reply_reader.specs.Told.{keyless, unread, told_empty, payload_from, right_in, key_in, list_in, info_in, told_of, told_success, told, Reads};
 
 use crate::answer::{Answer, Told};
-use profile::sizes::{HANDLE_BYTES, KEY_BYTES};
+use profile::sizes::{HANDLE_BYTES, HASH_BYTES, KEY_BYTES};
 use profile::status::SUCCESS;
 
 // An answer without a key.
@@ -37,15 +37,14 @@ fn read_empty(f: &[u8], answer: Answer) -> Told
     without_key(answer)
 }
 
-// Kind 3: a key, a count, the hash count above four zero bits, the hashes, each as long as the reply's edition has them, and the payload
-// (PROFILE 3.4).
+// Kind 3: a key, a count, the hash count above four zero bits, the hashes and the payload (PROFILE 3.4).
 fn right_in(f: &[u8]) -> Told
     requires { (24 ≤ length f.now) × (payload_from f.now ≤ length f.now) }
     ensures { result ≡ right_in f.now }
 {
     let key = octets::arrays::key_at(f, 4);
     let hashes = crate::shape::wide8(bits::fields::hash_count_of(f[22]));
-    let at = crate::shape::after_hashes(f, hashes);
+    let at = 23 + HASH_BYTES * hashes;
     Told {
         answer: Answer::Right {
             count: crate::shape::count_at(f, 20),
@@ -175,16 +174,6 @@ fn tell(f: &[u8]) -> Told
             status: status,
         },
     )
-}
-
-// The version of a reply, beside what it tells. Of no bytes at all it is 0.
-pub fn version_in(f: &[u8]) -> u8
-    ensures { result ≡ version_in f.now }
-{
-    if f.len() < 1 {
-        return 0;
-    }
-    bits::fields::frame_version(f[0])
 }
 
 // What a frame tells, exactly, and that it means what the profile says of the frame. Any bytes may be read.

@@ -1,15 +1,14 @@
 // The reply reader's tests (PROFILE 6.3): whether a frame is a reply, and whether its body is of its kind's shape.
-ghost use Rattle.std.specs.Prelude.{◌≡◌, ◌&&◌, ◌||◌, ◌+◌, ◌*◌, ◌≤◌, ◌<◌, eqb, length};
+ghost use Rattle.std.specs.Prelude.{◌≡◌, ◌&&◌, ◌||◌, ◌+◌, ◌≤◌, eqb, length};
 ghost use Rattle.profile.specs.Bytes.{word};
-ghost use Rattle.profile.specs.Edition.{hash_size};
 ghost use Rattle.profile.specs.Slot.{count_holds};
-ghost use Rattle.profile.specs.Frame.{kind_of, is_status, is_frame, version_holds, edition_in, kept_in, body, Retrieve, Rek, List', Info};
+ghost use Rattle.profile.specs.Frame.{kind_of, is_status, is_frame, version_holds, kept_in, body, Retrieve, Rek, List', Info};
 ghost use Rattle.profile.specs.Device.{none?, gives_count, shaped};
 ghost use Rattle.reply_reader.specs.Told.{count_from};
 
-use profile::sizes::{HANDLE_BYTES, KEY_BYTES, MOST_PAYLOAD, MOST_SLOTS};
-use profile::status::{COUNT_RAISED, EDITION_NEEDED, NOT_ENOUGH_SPACE, SUCCESS};
-use profile::{Count, Edition};
+use profile::Count;
+use profile::sizes::{HANDLE_BYTES, HASH_BYTES, KEY_BYTES, MOST_HASHES, MOST_PAYLOAD, MOST_SLOTS};
+use profile::status::{COUNT_RAISED, NOT_ENOUGH_SPACE, SUCCESS};
 
 // The length of a reply with a key, the most bytes of handles in a list, and the longest reply of kind 9.
 const KEY_REPLY: usize = 4 + KEY_BYTES;
@@ -32,7 +31,7 @@ fn wide16(n: u16) -> usize
     n as usize
 }
 
-// Four bytes or more, as many as its body length says, and the version of an edition (PROFILE 1.4).
+// Four bytes or more, as many as its body length says, and version 1.
 pub fn is_reply(f: &[u8]) -> bool
     ensures { result ≡ (is_frame f.now && version_holds f.now) }
 {
@@ -40,8 +39,7 @@ pub fn is_reply(f: &[u8]) -> bool
         return false;
     }
     let n = wide16(words::word_at(f, 2));
-    let version = bits::fields::frame_version(f[0]);
-    (f.len() == 4 + n) & editions::is_version(version)
+    (f.len() == 4 + n) & (bits::fields::frame_version(f[0]) == 1)
 }
 
 // Kinds 3 and 9 give a count (PROFILE 3.2).
@@ -59,11 +57,11 @@ pub fn bit_allowed(kind: u8, bit: u8, status: u8) -> bool
     (bit == 0) | ((status == SUCCESS) & gives)
 }
 
-// Whether a number is a status: 0 to 7, 9 or 10 (PROFILE 4.2). 8, between them, is not.
+// Whether a number is a status: 0 to 7, or 9 (PROFILE 4.2). 8, between them, is not.
 pub fn is_status(s: u8) -> bool
     ensures { result ≡ is_status s }
 {
-    (s <= NOT_ENOUGH_SPACE) | (s == COUNT_RAISED) | (s == EDITION_NEEDED)
+    (s <= NOT_ENOUGH_SPACE) | (s == COUNT_RAISED)
 }
 
 // Whether the body is empty.
@@ -92,25 +90,7 @@ pub fn count_at(f: &[u8], at: usize) -> Count
     counts::count_with(bit, n)
 }
 
-// The edition of a reply, by its version.
-fn edition_in(f: &[u8]) -> Edition
-    requires { 1 ≤ length f.now }
-    ensures { result ≡ edition_in f.now }
-{
-    editions::of_version(bits::fields::frame_version(f[0]))
-}
-
-// Where the payload of kind 3 begins: after so many hashes, each as long as the reply's edition has them.
-pub fn after_hashes(f: &[u8], hashes: usize) -> usize
-    requires { (1 ≤ length f.now) × (hashes < 256) }
-    ensures { (result ≡ 23 + hash_size (edition_in f.now) * hashes) × (result < 65536) }
-{
-    let size = editions::hash_bytes(edition_in(f));
-    23 + size * hashes
-}
-
-// Kind 3: a count, the four bits after the hash count zero, no more hashes than the reply's edition allows, and a payload of 1 to 4,096
-// bytes.
+// Kind 3: a count, the four bits after the hash count zero, at most 8 hashes, and a payload of 1 to 4,096 bytes.
 pub fn is_right(f: &[u8]) -> bool
     ensures { result ≡ shaped Retrieve f.now }
 {
@@ -119,11 +99,10 @@ pub fn is_right(f: &[u8]) -> bool
     }
     let hashes = wide8(bits::fields::hash_count_of(f[22]));
     let rest = bits::fields::hash_count_rest(f[22]);
-    let at = after_hashes(f, hashes);
+    let at = 23 + HASH_BYTES * hashes;
     let sized = (at < f.len()) & (f.len() <= at + MOST_PAYLOAD);
     let counted = says_count(f, 20);
-    let most = editions::most_hashes(edition_in(f));
-    (hashes <= most) & (rest == 0) & sized & counted
+    (hashes <= MOST_HASHES) & (rest == 0) & sized & counted
 }
 
 // Kind 4: a key.

@@ -1,23 +1,22 @@
-// Replies written at the start of a lent buffer (PROFILE 3.2 and 3.4), in version 1: who has the request sets the edition, last. The bytes of
-// the buffer after the reply keep what they held.
+// Replies written at the start of a lent buffer (PROFILE 3.2 and 3.4). The bytes of the buffer after the reply keep what they held.
 ghost use Rattle.std.specs.Prelude.{◌≡◌, [], ◌∷◌, ◌++◌, ◌+◌, ◌*◌, ◌≤◌, ◌<◌, length};
 ghost use Rattle.profile.specs.Bytes.{part, over};
-ghost use Rattle.profile.specs.Sizes.{slot_size, reply_room, most_payload, key_size, key_at, count_at};
-ghost use Rattle.profile.specs.declared.Edition.TheVariants.{First};
-ghost use Rattle.profile.specs.Edition.{most_hashes};
-ghost use Rattle.profile.specs.Table.{hash_count_of, edition_at, kept_of, count_of, length_of, count_bytes, right_of};
+ghost use Rattle.profile.specs.Sizes.{slot_size, reply_room, most_payload, key_size, most_hashes, key_at, count_at};
+ghost use Rattle.profile.specs.Table.{hash_count_of, kept_of, count_of, length_of, count_bytes, right_of};
 ghost use Rattle.profile.specs.Frame.{frame};
 ghost use Rattle.profile.specs.Agent.{the_right, the_key, given_bit, write_given};
 ghost use Rattle.buffers.specs.Over.{over_at};
 ghost use Rattle.reply_writer.specs.Written.{head_of, info_of};
 
 use profile::Count;
-use profile::sizes::KEY_BYTES;
+use profile::sizes::{HASH_BYTES, KEY_BYTES};
 use profile::slot::{COUNT_AT, HASHES_AT, KEY_AT, LENGTH_AT, PAYLOAD_AT};
 use profile::status::SUCCESS;
 
-// A key, as a body length counts it.
+// A key and a hash, as a body length counts them.
 const KEY_LENGTH: u16 = KEY_BYTES as u16;
+
+const HASH_LENGTH: u16 = HASH_BYTES as u16;
 
 // The head of a reply with a body of n bytes: version 1 and the kind as asked; the status, with the bit of a count above it where one is
 // given; the body length (PROFILE 3.2).
@@ -40,7 +39,7 @@ fn put_key(reply: &mut [u8], slot: &[u8])
 // A reply with an empty body: of every status but 0, and at success of kinds 1, 2 and 5 to 7.
 pub fn reply_status(reply: &mut [u8], kind: u8, status: u8)
     requires { (kind < 32) × (4 ≤ length reply.old) }
-    ensures { reply.new ≡ over (frame First kind status []) reply.old }
+    ensures { reply.new ≡ over (frame kind status []) reply.old }
 {
     put_head(reply, kind, status, 0);
 }
@@ -48,7 +47,7 @@ pub fn reply_status(reply: &mut [u8], kind: u8, status: u8)
 // Kind 4 at success: the key, from the record's slot.
 pub fn reply_key(reply: &mut [u8], slot: &[u8])
     requires { (4 + key_size ≤ length reply.old) × (length slot.now ≡ slot_size) }
-    ensures { reply.new ≡ over (frame First 4 0 (write_given (the_key (right_of slot.now).key))) reply.old }
+    ensures { reply.new ≡ over (frame 4 0 (write_given (the_key (right_of slot.now).key))) reply.old }
 {
     put_head(reply, 4, SUCCESS, KEY_LENGTH);
     put_key(reply, slot);
@@ -75,7 +74,7 @@ fn count_in(slot: &[u8]) -> Count
 // Kind 9 at success: count and payload, from the record's slot; the bit of the count stands in the head.
 pub fn reply_info(reply: &mut [u8], slot: &[u8])
     requires { (6 + most_payload ≤ length reply.old) × (length slot.now ≡ slot_size) × (length_of slot.now ≤ most_payload) }
-    ensures { reply.new ≡ over (frame First 9 (128 * given_bit (info_of (right_of slot.now))) (write_given (info_of (right_of slot.now)))) reply.old }
+    ensures { reply.new ≡ over (frame 9 (128 * given_bit (info_of (right_of slot.now))) (write_given (info_of (right_of slot.now)))) reply.old }
 {
     let second = success_of(slot);
     let count = counts::number_of(count_in(slot));
@@ -97,21 +96,21 @@ fn right_head(count: Count, hashes: u8) -> [u8; 3]
     [high, low, shifted]
 }
 
-// Kind 3 at success: the record's key, count, hashes, in the record's own length, and payload, from its slot; the bit of the count stands in the head.
+// Kind 3 at success: the record's key, count, hashes and payload, from its slot; the bit of the count stands in the head.
 pub fn reply_right(reply: &mut [u8], slot: &[u8])
-    requires { (reply_room ≤ length reply.old) × (length slot.now ≡ slot_size) × (hash_count_of slot.now ≤ most_hashes (edition_at slot.now)) × (length_of slot.now ≤ most_payload) }
-    ensures { reply.new ≡ over (frame First 3 (128 * given_bit (the_right (right_of slot.now))) (write_given (the_right (right_of slot.now)))) reply.old }
+    requires { (reply_room ≤ length reply.old) × (length slot.now ≡ slot_size) × (hash_count_of slot.now ≤ most_hashes) × (length_of slot.now ≤ most_payload) }
+    ensures { reply.new ≡ over (frame 3 (128 * given_bit (the_right (right_of slot.now))) (write_given (the_right (right_of slot.now)))) reply.old }
 {
     let hashes = bits::fields::slot_hashes(slot[0]);
-    let edition = editions::of_mark(bits::fields::slot_long(slot[0]));
     let second = success_of(slot);
     let count = count_in(slot);
     let length = words::word_at(slot, LENGTH_AT);
-    let n = editions::bytes_of(edition, hashes as usize);
-    put_head(reply, 3, second, 19 + (n as u16) + length);
+    let size = HASH_LENGTH * (hashes as u16);
+    put_head(reply, 3, second, 19 + size + length);
     put_key(reply, slot);
     let head = right_head(count, hashes);
     buffers::put_bytes(reply, 20, &head);
+    let n = size as usize;
     buffers::put_part(reply, 23, slot, HASHES_AT, n);
     buffers::put_part(reply, 23 + n, slot, PAYLOAD_AT, length as usize);
 }

@@ -6,23 +6,18 @@ use native.Mathlib.Omega.{arith}
 use lib.Dec.{eqb, leb}
 use lib.ListN.{length}
 use Rattle.profile.specs.Bytes.{Bytes, from1to}
-use Rattle.profile.specs.Sizes.{most_payload}
-use Rattle.profile.specs.Edition.{Edition, hash_size, most_hashes}
+use Rattle.profile.specs.Sizes.{most_payload, hash_size, most_hashes}
 use Rattle.profile.specs.Slot.{count_holds}
 use Rattle.profile.specs.Frame.{kind_of}
 use Rattle.profile.specs.Device.{Fields, whole_hashes, no_new, no_key, no_room, no_limit, no_hashes, no_payload, count_says}
 use Rattle.profile.proofs.Logic.{and_parts, eqb_eq, leb_le, from_1_to_says}
 use Rattle.request_fields.specs.Given.{kind_allows}
 
--- ---- whole hashes of an edition, and no more than it allows
-pub hashes_few : (d : Edition) (s : Bytes) (b : Bool) → (whole_hashes d s && b) ≡ true → (length s % hash_size d ≡ 0) × (length s / hash_size d ≤ most_hashes d)
-hashes_few d s b e =
-    let w = hash_size d in
-    let p = and_parts (eqb (length s % w) 0) (leb (length s / w) (most_hashes d)) (and_parts (whole_hashes d s) b e).0 in
-    (eqb_eq (length s % w) 0 p.0, leb_le (length s / w) (most_hashes d) p.1)
-
-pub whole_tests : (d : Edition) (s : Bytes) {w m : ℕ} → w ≡ hash_size d → m ≡ most_hashes d → (eqb (length s % w) 0 && leb (length s / w) m) ≡ whole_hashes d s
-whole_tests d s ew em = rw (ew, em)
+-- ---- whole hashes, 8 at the most
+pub hashes_few : (s : Bytes) (b : Bool) → (whole_hashes s && b) ≡ true → (length s % hash_size ≡ 0) × (length s / hash_size ≤ most_hashes)
+hashes_few s b e =
+    let p = and_parts (eqb (length s % hash_size) 0) (leb (length s / hash_size) most_hashes) (and_parts (whole_hashes s) b e).0 in
+    (eqb_eq (length s % hash_size) 0 p.0, leb_le (length s / hash_size) most_hashes p.1)
 
 -- ---- the payload of kind 2, and the count of kinds 2 and 5
 module _ (f : Fields) (w : Bool) (kind : ℕ) where

@@ -7,8 +7,7 @@ ghost use Rattle.profile.specs.Frame.{kind_of};
 ghost use Rattle.profile.specs.Device.{none?, whole_hashes};
 ghost use Rattle.request_fields.specs.Given.{fields_of, kind_allows};
 
-use profile::Edition;
-use profile::sizes::{HANDLE_BYTES, KEY_BYTES, MOST_PAYLOAD};
+use profile::sizes::{HANDLE_BYTES, HASH_BYTES, KEY_BYTES, MOST_HASHES, MOST_PAYLOAD};
 
 // All fields but the hashes and the payload, which are lent and not copied. `room` is the length of kind 1. A count is given by its
 // number and its bit, `kept`: not every two of these say a count, and the tests find those that do not.
@@ -44,13 +43,11 @@ fn empty(s: &[u8]) -> bool
     s.len() == 0
 }
 
-// The hash bytes must be whole hashes of the edition, and no more than it allows.
-pub fn whole_hashes(edition: Edition, s: &[u8]) -> bool
-    ensures { result ≡ whole_hashes edition s.now }
+// The hash bytes must be whole hashes, 8 at the most.
+pub fn whole_hashes(s: &[u8]) -> bool
+    ensures { result ≡ whole_hashes s.now }
 {
-    let size = editions::hash_bytes(edition);
-    let most = editions::most_hashes(edition);
-    (s.len() % size == 0) & (s.len() / size <= most)
+    (s.len() % HASH_BYTES == 0) & (s.len() / HASH_BYTES <= MOST_HASHES)
 }
 
 // The payload of kind 2 must be 1 to 4,096 bytes long.

@@ -8,9 +8,8 @@ use lib.Dec.{eqb, leb}
 use lib.ListN.{length, get_or, drop, length-drop}
 use lib.Seq.{drop-drop, take_all, get_or-drop}
 use Rattle.profile.specs.Bytes.{Bytes, if◌then◌else◌, byte, part, word, zeros, from1to}
-use Rattle.profile.specs.Sizes.{most_payload, handle_size, key_size}
-use Rattle.profile.specs.Edition.{hash_size, most_hashes}
-use Rattle.profile.specs.Frame.{Kind, setup_kind, install_kind, retrieve_kind, rek_kind, enable_kind, remove_kind, cancel_kind, list_kind, info_kind, kind_of, kind_number, is_frame, version_holds, edition_in, body, parameter}
+use Rattle.profile.specs.Sizes.{most_payload, handle_size, key_size, hash_size, most_hashes}
+use Rattle.profile.specs.Frame.{Kind, setup_kind, install_kind, retrieve_kind, rek_kind, enable_kind, remove_kind, cancel_kind, list_kind, info_kind, kind_of, kind_number, is_frame, version_holds, body, parameter}
 use Rattle.profile.specs.declared.Count.TheVariants.{NoneKept}
 use Rattle.profile.specs.Slot.{Count, count_holds, count_with}
 use Rattle.profile.specs.Request.{install, Read, asks, refused, zero_bits, verdict, kept_asked, body_fits, guarded, fields_hold, fields, read_kind, read_request}
@@ -66,13 +65,6 @@ module _ (f : Bytes) (is : is_frame f ≡ true) where
   abbrev n : ℕ
   n = word 2 f
 
-  -- how long a hash of the frame's edition is, and how many there may be
-  abbrev width : ℕ
-  width = hash_size (edition_in f)
-
-  abbrev most : ℕ
-  most = most_hashes (edition_in f)
-
   long : length f ≡ 4 + n
   long = eqb_eq (length f) (4 + n) (and_parts (leb 4 (length f)) (eqb (length f) (4 + n)) is).1
 
@@ -107,45 +99,44 @@ module _ (f : Bytes) (is : is_frame f ≡ true) where
   abbrev count : ℕ
   count = byte 32 f / 16
 
-  payload_size : length (drop 14 f) - (19 + width * count) ≡ n - (29 + width * count)
+  payload_size : length (drop 14 f) - (19 + hash_size * count) ≡ n - (29 + hash_size * count)
   payload_size = rw (length-drop 14 f) (omega (arith, long))
 
   install_tests : fields_hold install_kind f ≡ (install_holds n f && count_holds (kept_asked f) (word 30 f))
   install_tests =
       rw (from_14, byte_32, payload_size, word_from 4 26 f)
       (ap (λ (b : Bool). b && count_holds (kept_asked f) (word 30 f))
-      (first_in (leb 1 count) (leb count most) (eqb (byte 32 f % 16) 0) (from1to most_payload (n - (29 + width * count)))))
+      (first_in (leb 1 count) (leb count most_hashes) (eqb (byte 32 f % 16) 0) (from1to most_payload (n - (29 + hash_size * count)))))
 
-  install_ends : install_holds n f ≡ true → InstallEnds f count 33 (n - (29 + width * count))
+  install_ends : install_holds n f ≡ true → InstallEnds f count 33 (n - (29 + hash_size * count))
   install_ends h =
-      let p = and_parts (leb 1 count && leb count most && eqb (byte 32 f % 16) 0) (from1to most_payload (n - (29 + width * count))) h in
-      let s = and_parts (leb 1 count && leb count most) (eqb (byte 32 f % 16) 0) p.0 in
-      let q = from_1_to_says most_payload (n - (29 + width * count)) p.1 in
+      let p = and_parts (leb 1 count && leb count most_hashes && eqb (byte 32 f % 16) 0) (from1to most_payload (n - (29 + hash_size * count))) h in
+      let s = and_parts (leb 1 count && leb count most_hashes) (eqb (byte 32 f % 16) 0) p.0 in
+      let q = from_1_to_says most_payload (n - (29 + hash_size * count)) p.1 in
       record {
-        some_hash = leb_le 1 count (and_parts (leb 1 count) (leb count most) s.0).0;
-        few = leb_le count most (and_parts (leb 1 count) (leb count most) s.0).1;
+        few = leb_le count most_hashes (and_parts (leb 1 count) (leb count most_hashes) s.0).1;
         least = q.0;
         most = q.1;
         ends = omega (arith, long, q.0);
       }
 
-  install_fields : install_holds n f ≡ true → install (part 4 handle_size f) (right_in f (part 14 key_size f) (count_with (kept_asked f) (word 30 f)) count 33 (n - (29 + width * count))) ≡ fields install_kind f
+  install_fields : install_holds n f ≡ true → install (part 4 handle_size f) (right_in f (part 14 key_size f) (count_with (kept_asked f) (word 30 f)) count 33 (n - (29 + hash_size * count))) ≡ fields install_kind f
   install_fields h =
-      rw (from_14, byte_32, word_from 4 26 f, drop-drop 19 14 f, drop-drop (19 + width * count) 14 f, payload)
+      rw (from_14, byte_32, word_from 4 26 f, drop-drop 19 14 f, drop-drop (19 + hash_size * count) 14 f, payload)
     where
-      e : InstallEnds f count 33 (n - (29 + width * count))
+      e : InstallEnds f count 33 (n - (29 + hash_size * count))
       e = install_ends h
 
-      offsets : 33 + width * count ≡ 14 + (19 + width * count)
+      offsets : 33 + hash_size * count ≡ 14 + (19 + hash_size * count)
       offsets = omega arith
 
-      payload : part (33 + width * count) (n - (29 + width * count)) f ≡ drop (14 + (19 + width * count)) f
-      payload = take_all (n - (29 + width * count)) (drop (33 + width * count) f) (rw (length-drop (33 + width * count) f) (omega (arith, e.ends))) ∙ ap (λ (i : ℕ). drop i f) offsets
+      payload : part (33 + hash_size * count) (n - (29 + hash_size * count)) f ≡ drop (14 + (19 + hash_size * count)) f
+      payload = take_all (n - (29 + hash_size * count)) (drop (33 + hash_size * count) f) (rw (length-drop (33 + hash_size * count) f) (omega (arith, e.ends))) ∙ ap (λ (i : ℕ). drop i f) offsets
 
   install_agrees : (b c : Bool) → install_holds n f ≡ b → count_holds (kept_asked f) (word 30 f) ≡ c → Agree f (of_install n f) (if not (fields_hold install_kind f) then refused parameter else asks (fields install_kind f))
   unfolding of_install of_right installation meaning
   install_agrees true true h k =
-      let e : InstallEnds f count 33 (n - (29 + width * count)) = install_ends h in
+      let e : InstallEnds f count 33 (n - (29 + hash_size * count)) = install_ends h in
       rw (install_tests, h, k)
       (record {
         means = ap asks (install_fields h);
@@ -169,8 +160,8 @@ module _ (f : Bytes) (is : is_frame f ≡ true) where
 
   list_ends : list_holds n f ≡ true → ListEnds f (byte 6 f) 7
   list_ends h =
-      let p = and_parts (leb (byte 6 f) most) (eqb n (3 + width * byte 6 f)) h in
-      record { few = leb_le (byte 6 f) most p.0; ends = omega (arith, long, eqb_eq n (3 + width * byte 6 f) p.1) }
+      let p = and_parts (leb (byte 6 f) most_hashes) (eqb n (3 + hash_size * byte 6 f)) h in
+      record { few = leb_le (byte 6 f) most_hashes p.0; ends = omega (arith, long, eqb_eq n (3 + hash_size * byte 6 f) p.1) }
 
   list_agrees : (b : Bool) → list_holds n f ≡ b → Agree f (of_list n f) (if not (fields_hold list_kind f) then refused parameter else asks (fields list_kind f))
   unfolding of_list listing meaning

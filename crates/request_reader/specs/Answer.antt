@@ -1,10 +1,9 @@
 -- What the request reader's answer means in the card profile, for each case of its enum; and what it promises of every frame.
 use Rattle.std.specs.Prelude.{ℕ, ◌+◌, ◌*◌, ◌≤◌, ◌≡◌, length, drop}
 use Rattle.profile.specs.Bytes.{Bytes, part, pieces}
-use Rattle.profile.specs.Sizes.{most_payload, handle_size, key_size}
-use Rattle.profile.specs.Edition.{hash_size, most_hashes}
+use Rattle.profile.specs.Sizes.{most_payload, handle_size, key_size, hash_size, most_hashes}
 use Rattle.profile.specs.Slot.{Count, Right, right_with}
-use Rattle.profile.specs.Frame.{integrity, parameter, unsupported, edition_in}
+use Rattle.profile.specs.Frame.{integrity, parameter, unsupported}
 use Rattle.profile.specs.Request.{Request, setup, install, retrieve, rek, enable, remove, cancel, list, info, Read, asks, refused, no_frame, read_request}
 use Rattle.request_reader.specs.declared.asked.Why.{Why}
 use Rattle.request_reader.specs.declared.asked.Why.TheVariants.{NoFrame, Integrity, Parameter, Unsupported}
@@ -22,12 +21,12 @@ why_means Integrity = refused integrity
 why_means Parameter = refused parameter
 why_means Unsupported = refused unsupported
 
--- ---- the fields: n hashes of the frame's edition stand in it from an offset on, and the payload follows them
+-- ---- the fields: n hashes stand in the frame from an offset on, and the payload follows them
 abbrev pub hashes_in : Bytes → ℕ → ℕ → mathlib.Core.List.List Bytes
-hashes_in f n at = pieces (hash_size (edition_in f)) n (drop at f)
+hashes_in f n at = pieces hash_size n (drop at f)
 
 abbrev pub right_in : Bytes → Bytes → Count → ℕ → ℕ → ℕ → Right
-right_in f key c n at len = right_with key c (hashes_in f n at) (part (at + hash_size (edition_in f) * n) len f)
+right_in f key c n at len = right_with key c (hashes_in f n at) (part (at + hash_size * n) len f)
 
 abbrev pub body_means : Bytes → Body → Asked → Request
 body_means f (Setup n) r = setup r.handle n
@@ -49,15 +48,14 @@ meaning f r = ask_means f r.ask r
 
 -- ---- where the hashes and the payload end
 pub record InstallEnds (f : Bytes) (n at len : ℕ) : Type 0 where
-  pub some_hash : 1 ≤ n
-  pub few : n ≤ most_hashes (edition_in f)
+  pub few : n ≤ most_hashes
   pub least : 1 ≤ len
   pub most : len ≤ most_payload
-  pub ends : at + hash_size (edition_in f) * n + len ≡ length f
+  pub ends : at + hash_size * n + len ≡ length f
 
 pub record ListEnds (f : Bytes) (n at : ℕ) : Type 0 where
-  pub few : n ≤ most_hashes (edition_in f)
-  pub ends : at + hash_size (edition_in f) * n ≡ length f
+  pub few : n ≤ most_hashes
+  pub ends : at + hash_size * n ≡ length f
 
 abbrev pub BodyEnds : Bytes → Body → Type 0
 BodyEnds f (Setup n) = Unit {0}

@@ -2,9 +2,8 @@
 use Rattle.std.specs.Prelude.{ℕ, ◌+◌, ◌-◌, ◌*◌, ◌/◌, ◌%◌, Bool, ◌&&◌, not, eqb, leb}
 use Rattle.std.proofs.Math.Option.{Option, none, some}
 use Rattle.profile.specs.Bytes.{Bytes, if◌then◌else◌, byte, part, word, zeros, from1to}
-use Rattle.profile.specs.Sizes.{most_payload, handle_size, key_size}
-use Rattle.profile.specs.Edition.{hash_size, most_hashes}
-use Rattle.profile.specs.Frame.{Kind, setup_kind, install_kind, retrieve_kind, rek_kind, enable_kind, remove_kind, cancel_kind, list_kind, info_kind, kind_of, is_frame, version_holds, edition_in, kind_number}
+use Rattle.profile.specs.Sizes.{most_payload, handle_size, key_size, hash_size, most_hashes}
+use Rattle.profile.specs.Frame.{Kind, setup_kind, install_kind, retrieve_kind, rek_kind, enable_kind, remove_kind, cancel_kind, list_kind, info_kind, kind_of, is_frame, version_holds, kind_number}
 use Rattle.profile.specs.declared.Count.TheVariants.{NoneKept}
 use Rattle.profile.specs.Slot.{Count, count_holds, count_with}
 use Rattle.profile.specs.Request.{sends_count, verdict, kept_asked, body_fits, guarded}
@@ -42,13 +41,13 @@ tested fits v a =
     else if eqb v 0 then refusal why.Integrity
     else a
 
--- kind 2: 2 where the hash count is 0 or over the most of the frame's edition, one of the 4 zero bits is set, or the payload is not 1 to 4,096 bytes long
+-- kind 2: 2 where the hash count is 0 or over 8, one of the 4 zero bits is set, or the payload is not 1 to 4,096 bytes long
 abbrev pub install_holds : ℕ → Bytes → Bool
 install_holds n f =
     leb 1 (byte 32 f / 16)
-    && leb (byte 32 f / 16) (most_hashes (edition_in f))
+    && leb (byte 32 f / 16) most_hashes
     && eqb (byte 32 f % 16) 0
-    && from1to most_payload (n - (29 + hash_size (edition_in f) * (byte 32 f / 16)))
+    && from1to most_payload (n - (29 + hash_size * (byte 32 f / 16)))
 
 -- 2 also where the bit and the number of the count, at offset 30, say no count
 unfoldable pub of_right : Bytes → ℕ → ℕ → Asked
@@ -58,7 +57,7 @@ of_right f n len =
 
 unfoldable pub of_install : ℕ → Bytes → Asked
 of_install n f =
-    if install_holds n f then of_right f (byte 32 f / 16) (n - (29 + hash_size (edition_in f) * (byte 32 f / 16)))
+    if install_holds n f then of_right f (byte 32 f / 16) (n - (29 + hash_size * (byte 32 f / 16)))
     else refusal why.Parameter
 
 -- kind 5: 2 where the bit and the number of the count, at offset 14, say no count
@@ -67,9 +66,9 @@ of_enable f =
     if count_holds (kept_asked f) (word 14 f) then one_handle f (count_with (kept_asked f) (word 14 f)) body.Enable
     else refusal why.Parameter
 
--- kind 8: 2 where the hash count is over the most of the frame's edition, or the body is not exactly as long as its hashes make it
+-- kind 8: 2 where the hash count is over 8, or the body is not exactly as long as its hashes make it
 abbrev pub list_holds : ℕ → Bytes → Bool
-list_holds n f = leb (byte 6 f) (most_hashes (edition_in f)) && eqb n (3 + hash_size (edition_in f) * byte 6 f)
+list_holds n f = leb (byte 6 f) most_hashes && eqb n (3 + hash_size * byte 6 f)
 
 unfoldable pub of_list : ℕ → Bytes → Asked
 of_list n f = if list_holds n f then list_query f (byte 6 f) else refusal why.Parameter

@@ -1,8 +1,7 @@
 // The request reader (PROFILE 6.1): first 104, then the tests for all kinds (PROFILE 4.3), then the field tests of kinds 2, 5 and 8.
 ghost use Rattle.std.specs.Prelude.{◌≡◌, ◌&&◌, ◌+◌, ◌*◌, ◌≤◌, length, eqb, leb};
-ghost use Rattle.profile.specs.Sizes.{handle_size};
-ghost use Rattle.profile.specs.Edition.{most_hashes};
-ghost use Rattle.profile.specs.Frame.{kind_of, edition_in};
+ghost use Rattle.profile.specs.Sizes.{handle_size, most_hashes};
+ghost use Rattle.profile.specs.Frame.{kind_of};
 ghost use Rattle.profile.specs.Bytes.{word};
 ghost use Rattle.profile.specs.declared.Count.TheVariants.{NoneKept};
 ghost use Rattle.profile.specs.Request.{kept_asked};
@@ -11,8 +10,8 @@ ghost use Rattle.request_reader.specs.Answer.{Answers};
 ghost use Rattle.request_reader.specs.declared.asked.Body.TheVariants as body;
 
 use crate::asked::{Asked, Body, Why};
-use profile::sizes::{HANDLE_BYTES, MOST_PAYLOAD};
-use profile::{Count, Edition};
+use profile::Count;
+use profile::sizes::{HANDLE_BYTES, HASH_BYTES, MOST_HASHES, MOST_PAYLOAD};
 
 // The body length of kinds 3 and 4.
 const TWO_HANDLES: usize = 2 * HANDLE_BYTES;
@@ -37,14 +36,6 @@ fn kept_in(f: &[u8]) -> u8
     ensures { result ≡ kept_asked f.now }
 {
     bits::fields::request_kept(f[1])
-}
-
-// The edition in which a frame is read and answered (PROFILE 3.2): the one of its version, and the first where no edition has it.
-pub fn edition_in(f: &[u8]) -> Edition
-    requires { 4 ≤ length f.now }
-    ensures { result ≡ edition_in f.now }
-{
-    editions::of_version(bits::fields::frame_version(f[0]))
 }
 
 // Whether the zero bits of the second byte are 0: six for kinds 2 and 5, and seven for every other kind, known or not (PROFILE 3.1).
@@ -142,27 +133,26 @@ fn install_count(f: &[u8], hashes: usize, payload: usize) -> Asked
     crate::asked::with_right(f, count, hashes, payload)
 }
 
-// The hash count of kind 2: a course is found by its hashes, so it comes with one at least, and with no more than its edition has.
-fn hashes_fit(edition: Edition, n: usize) -> bool
-    ensures { result ≡ (leb 1 n && leb n (most_hashes edition)) }
+// The hash count of kind 2: a course is found by its hashes, so it comes with one at least.
+fn hashes_fit(n: usize) -> bool
+    ensures { result ≡ (leb 1 n && leb n most_hashes) }
 {
-    (1 <= n) & (n <= editions::most_hashes(edition))
+    (1 <= n) & (n <= MOST_HASHES)
 }
 
-// The field tests of kind 2 (PROFILE 5.2), on a body of 30 bytes or more. Its hashes are those of the frame's edition.
+// The field tests of kind 2 (PROFILE 5.2), on a body of 30 bytes or more.
 fn install_fields(f: &[u8], n: usize) -> Asked
     requires { (length f.now ≡ 4 + n) × (30 ≤ n) }
     ensures { result ≡ of_install n f.now }
 {
-    let edition = edition_in(f);
     let hashes = wide(bits::fields::hash_count_of(f[32]));
-    if !hashes_fit(edition, hashes) {
+    if !hashes_fit(hashes) {
         return crate::asked::refuse(Why::Parameter);
     }
     if bits::fields::hash_count_rest(f[32]) != 0 {
         return crate::asked::refuse(Why::Parameter);
     }
-    let start = 29 + editions::bytes_of(edition, hashes);
+    let start = 29 + HASH_BYTES * hashes;
     if n <= start {
         return crate::asked::refuse(Why::Parameter);
     }
@@ -187,7 +177,7 @@ fn read_install(f: &[u8], n: usize, verdict: u8) -> Asked
     install_fields(f, n)
 }
 
-// Kind 8: a limit, the hash count and the hashes of the frame's edition, 3 bytes or more (PROFILE 5.8). Its verdict is ignored.
+// Kind 8: a limit, the hash count and the hashes, 3 bytes or more (PROFILE 5.8). Its verdict is ignored.
 fn read_list(f: &[u8], n: usize) -> Asked
     requires { length f.now ≡ 4 + n }
     ensures { result ≡ tested (leb 3 n) 1 (of_list n f.now) }
@@ -195,12 +185,11 @@ fn read_list(f: &[u8], n: usize) -> Asked
     if n < 3 {
         return crate::asked::refuse(Why::Parameter);
     }
-    let edition = edition_in(f);
     let count = wide(f[6]);
-    if count > editions::most_hashes(edition) {
+    if count > MOST_HASHES {
         return crate::asked::refuse(Why::Parameter);
     }
-    if n != 3 + editions::bytes_of(edition, count) {
+    if n != 3 + HASH_BYTES * count {
         return crate::asked::refuse(Why::Parameter);
     }
     crate::asked::with_hashes(f, count)
@@ -236,7 +225,7 @@ fn read_frame(f: &[u8]) -> Asked
     if f.len() != 4 + n {
         return crate::asked::refuse(Why::NoFrame);
     }
-    if !editions::is_version(bits::fields::frame_version(f[0])) {
+    if bits::fields::frame_version(f[0]) != 1 {
         return crate::asked::refuse(Why::Parameter);
     }
     let kind = bits::fields::frame_kind(f[0]);

@@ -9,7 +9,6 @@ use Rattle.buffers.specs.Over.{over_at}
 use Rattle.buffers.proofs.Overlays.{over_start, over_more}
 use Rattle.profile.specs.Bytes.{Bytes, word_bytes, over}
 use Rattle.profile.specs.Sizes.{handle_size, key_size, writer_buffer_short}
-use Rattle.profile.specs.declared.Edition.TheVariants.{First}
 use Rattle.profile.specs.Frame.{frame}
 use Rattle.profile.specs.Device.{put}
 use Rattle.request_fields.specs.declared.Plain.{Plain}
@@ -30,14 +29,14 @@ head_then k t m ys d l eh e₁ e₂ = then_part k t m [] ys d 4 refl l (e₁ ∙
 
 -- ---- a frame whose body has n bytes: the buffer is too short, and the frame at its start
 module _ (k t : ℕ) (b d : Bytes) (n : ℕ) (size : length b ≡ n) where
-  pub frame_short : length d < 4 + n → wrote writer_buffer_short d ≡ put (frame First k (128 + 64 * t) b) d
+  pub frame_short : length d < 4 + n → wrote writer_buffer_short d ≡ put (frame k (128 + 64 * t) b) d
   unfolding frame
-  frame_short h = rw (lt-ltb (length d) (length (frame First k (128 + 64 * t) b)) (omega arith))
+  frame_short h = rw (lt-ltb (length d) (length (frame k (128 + 64 * t) b)) (omega arith))
 
-  pub frame_whole : {y : Bytes} → 4 + n ≤ length d → y ≡ over_at 0 (started k t n b) d → wrote 0 y ≡ put (frame First k (128 + 64 * t) b) d
+  pub frame_whole : {y : Bytes} → 4 + n ≤ length d → y ≡ over_at 0 (started k t n b) d → wrote 0 y ≡ put (frame k (128 + 64 * t) b) d
   unfolding frame
   frame_whole h p =
-      rw (le-ltb (length d) (length (frame First k (128 + 64 * t) b)) (omega arith))
+      rw (le-ltb (length d) (length (frame k (128 + 64 * t) b)) (omega arith))
       (ap (wrote 0) (p ∙ over_start (started k t n b) d ∙ ap (λ (m : ℕ). over (started k t m b) d) (sym size)))
 
 -- ---- kinds 1 and 3 to 5: a handle and m bytes more
@@ -45,18 +44,18 @@ module _ (k t : ℕ) (h ys d : Bytes) (m : ℕ) (ten : length h ≡ handle_size)
   both : length (h ++ ys) ≡ handle_size + m
   both = rw length-append (omega arith)
 
-  pub two_short : length d < 14 + m → wrote writer_buffer_short d ≡ put (frame First k (128 + 64 * t) (h ++ ys)) d
+  pub two_short : length d < 14 + m → wrote writer_buffer_short d ≡ put (frame k (128 + 64 * t) (h ++ ys)) d
   two_short l = frame_short k t (h ++ ys) d (handle_size + m) both (omega arith)
 
-  pub two_whole : {y z : Bytes} → 14 + m ≤ length d → y ≡ over_at 0 (started k t (handle_size + m) h) d → z ≡ over_at 14 ys y → wrote 0 z ≡ put (frame First k (128 + 64 * t) (h ++ ys)) d
+  pub two_whole : {y z : Bytes} → 14 + m ≤ length d → y ≡ over_at 0 (started k t (handle_size + m) h) d → z ≡ over_at 14 ys y → wrote 0 z ≡ put (frame k (128 + 64 * t) (h ++ ys)) d
   two_whole l p q = frame_whole k t (h ++ ys) d (handle_size + m) both (omega arith) (then_part k t (handle_size + m) h ys d 14 (omega arith) (omega arith) p q)
 
 -- ---- kind 8: a head, a limit with the hash count, the hashes
-pub list_short : (limit n : ℕ) (x d : Bytes) → length d < 7 + length x → wrote writer_buffer_short d ≡ put (frame First 8 128 (word_bytes limit ++ (n ∷ x))) d
+pub list_short : (limit n : ℕ) (x d : Bytes) → length d < 7 + length x → wrote writer_buffer_short d ≡ put (frame 8 128 (word_bytes limit ++ (n ∷ x))) d
 list_short limit n x d l = frame_short 8 0 (word_bytes limit ++ (n ∷ x)) d (3 + length x) (omega arith) (omega arith)
 
 pub list_whole : (limit n : ℕ) (x d : Bytes) {head three y₁ y₂ y₃ : Bytes} → 7 + length x ≤ length d → head ≡ started 8 0 (3 + length x) [] → three ≡ word_bytes limit ++ (n ∷ [])
-    → y₁ ≡ over_at 0 head d → y₂ ≡ over_at 4 three y₁ → y₃ ≡ over_at 7 x y₂ → wrote 0 y₃ ≡ put (frame First 8 128 (word_bytes limit ++ (n ∷ x))) d
+    → y₁ ≡ over_at 0 head d → y₂ ≡ over_at 4 three y₁ → y₃ ≡ over_at 7 x y₂ → wrote 0 y₃ ≡ put (frame 8 128 (word_bytes limit ++ (n ∷ x))) d
 list_whole limit n x d {y₁ = y₁} l eh et e₁ e₂ e₃ =
     let size : ℕ = 3 + length x in
     let three : Bytes = word_bytes limit ++ (n ∷ []) in
@@ -93,12 +92,12 @@ module _ (p : Plain) (n : ℕ) (x w d : Bytes) (ten : length p.handle ≡ handle
       let l = lead_length in
       ap length (sym right_parts) ∙ rw (length-append (lead ++ x) w, length-append lead x) (omega arith)
 
-  pub right_short : length d < 33 + length x + length w → wrote writer_buffer_short d ≡ put (frame First 2 (128 + 64 * p.kept) (right_body p n x w)) d
+  pub right_short : length d < 33 + length x + length w → wrote writer_buffer_short d ≡ put (frame 2 (128 + 64 * p.kept) (right_body p n x w)) d
   right_short l = frame_short 2 p.kept (right_body p n x w) d (33 + length x + length w - 4) right_length (omega arith)
 
   pub right_whole : {b : ℕ} {y₁ y₂ y₃ : Bytes} → 33 + length x + length w ≤ length d → b ≡ 16 * n
       → y₁ ≡ over_at 0 (started 2 p.kept (33 + length x + length w - 4) (front p.handle p.key p.count b)) d → y₂ ≡ over_at 33 x y₁ → y₃ ≡ over_at (33 + length x) w y₂
-      → wrote 0 y₃ ≡ put (frame First 2 (128 + 64 * p.kept) (right_body p n x w)) d
+      → wrote 0 y₃ ≡ put (frame 2 (128 + 64 * p.kept) (right_body p n x w)) d
   right_whole l eb e₁ e₂ e₃ =
       let size : ℕ = 33 + length x + length w - 4 in
       let f = lead_length in

@@ -7,8 +7,7 @@ use lib.Dec.{eqb}
 use lib.ListN.{length, take, drop}
 use lib.Seq.{take_at, drop_at}
 use Rattle.profile.specs.Bytes.{Bytes, over}
-use Rattle.profile.specs.Edition.{Edition, of_version}
-use Rattle.profile.specs.Frame.{Kind, kind_of, edition_in}
+use Rattle.profile.specs.Frame.{Kind, kind_of}
 use Rattle.profile.specs.Request.{asks, read_request, write_request}
 use Rattle.profile.specs.Device.{Fields, request_of, Arrays, Written, write}
 use Rattle.profile.specs.Theorems.{ReadsBack}
@@ -17,40 +16,34 @@ use Rattle.request_reader.specs.declared.asked.Asked.{Asked}
 use Rattle.request_reader.specs.Answer.{meaning, Answers}
 use Rattle.request_writer.specs.Writing.{wrote}
 
--- the first `size` bytes of the buffer y read back to the fields f, in the edition of the version, and the others are those of d
-pub record Back (version kind : ℕ) (f : Fields) (d y : Bytes) : Type 0 where
-  pub e : Edition
-  pub of_version_lem : of_version version ≡ some e
+-- the first `size` bytes of the buffer y read back to the fields f, and the others are those of d
+pub record Back (kind : ℕ) (f : Fields) (d y : Bytes) : Type 0 where
   pub of_kind_lem : Kind
   pub number : kind_of kind ≡ some of_kind_lem
   pub size : ℕ
   pub short : size ≤ length d
-  pub frame : take size y ≡ write_request e (request_of e of_kind_lem f)
-  pub read_in : edition_in (take size y) ≡ e
-  pub read : read_request (take size y) ≡ asks (request_of e of_kind_lem f)
+  pub frame : take size y ≡ write_request (request_of of_kind_lem f)
+  pub read : read_request (take size y) ≡ asks (request_of of_kind_lem f)
   pub others : drop size y ≡ drop size d
 
-pub reads_back : (version kind : ℕ) (f : Fields) (d y : Bytes) → Arrays f → wrote 0 y ≡ write version kind f d → Back version kind f d y
+pub reads_back : (kind : ℕ) (f : Fields) (d y : Bytes) → Arrays f → wrote 0 y ≡ write kind f d → Back kind f d y
 unfolding over
-reads_back version kind f d y a e =
+reads_back kind f d y a e =
     record {
-      e = b.e;
-      of_version_lem = b.of_version_lem;
       of_kind_lem = b.of_kind_lem;
       number = b.number;
       size = length w;
       short = b.short;
       frame = first;
-      read_in = ap edition_in first ∙ b.read_in;
       read = ap read_request first ∙ b.read;
       others = ap (drop (length w)) is ∙ drop_at w (drop (length w) d) (length w) refl;
     }
   where
-    b : ReadsBack version kind f d (write version kind f d)
-    b = written_reads version kind f d a (ap (λ (o : Written). eqb o.number 0) (sym e))
+    b : ReadsBack kind f d (write kind f d)
+    b = written_reads kind f d a (ap (λ (o : Written). eqb o.number 0) (sym e))
 
     w : Bytes
-    w = write_request b.e (request_of b.e b.of_kind_lem f)
+    w = write_request (request_of b.of_kind_lem f)
 
     is : y ≡ over w d
     is = ap (λ (o : Written). o.buffer) e ∙ b.starts
@@ -59,6 +52,5 @@ reads_back version kind f d y a e =
     first = ap (take (length w)) is ∙ take_at w (drop (length w) d) (length w) refl
 
 -- so the reader's answer to those bytes means the fields
-pub answer_back : (version kind : ℕ) (f : Fields) (d y : Bytes) (b : Back version kind f d y) (r : Asked) → Answers (take b.size y) r
-    → meaning (take b.size y) r ≡ asks (request_of b.e b.of_kind_lem f)
-answer_back version kind f d y b r a = a.means ∙ b.read
+pub answer_back : (kind : ℕ) (f : Fields) (d y : Bytes) (b : Back kind f d y) (r : Asked) → Answers (take b.size y) r → meaning (take b.size y) r ≡ asks (request_of b.of_kind_lem f)
+answer_back kind f d y b r a = a.means ∙ b.read

@@ -1,10 +1,9 @@
-// Requests written part by part (PROFILE 3.1 and 3.3): 201 where the buffer is shorter than the frame, and else the frame in version 1,
-// with the verdict 1 and the bit of its count, `kept`. The rest of the buffer stays as found.
+// Requests written part by part (PROFILE 3.1 and 3.3): 201 where the buffer is shorter than the frame, and else the frame, with the
+// verdict 1 and the bit of its count, `kept`. The rest of the buffer stays as found.
 ghost use Rattle.std.specs.Prelude.{◌≡◌, ◌∷◌, [], ◌++◌, ◌+◌, ◌*◌, ◌≤◌, ◌<◌, length};
 ghost use Rattle.buffers.specs.Over.{over_at};
 ghost use Rattle.profile.specs.Bytes.{word_bytes};
 ghost use Rattle.profile.specs.Sizes.{most_payload, hash_room};
-ghost use Rattle.profile.specs.declared.Edition.TheVariants.{First};
 ghost use Rattle.profile.specs.Frame.{frame};
 ghost use Rattle.profile.specs.Device.{put};
 ghost use Rattle.request_writer.specs.Writing.{wrote, started, right_body};
@@ -49,7 +48,7 @@ fn counted(word: u16, hashes: u8) -> [u8; 3]
 // Kinds 6, 7 and 9: a handle.
 pub fn write_one(out: &mut [u8], kind: u8, handle: [u8; HANDLE_BYTES]) -> u16
     requires { kind < 32 }
-    ensures { wrote result out.new ≡ put (frame First kind 128 handle) out.old }
+    ensures { wrote result out.new ≡ put (frame kind 128 handle) out.old }
 {
     if out.len() < 14 {
         return WRITER_BUFFER_SHORT;
@@ -66,7 +65,7 @@ pub fn write_two(
     new: [u8; HANDLE_BYTES],
 ) -> u16
     requires { kind < 32 }
-    ensures { wrote result out.new ≡ put (frame First kind 128 (handle ++ new)) out.old }
+    ensures { wrote result out.new ≡ put (frame kind 128 (handle ++ new)) out.old }
 {
     if out.len() < 24 {
         return WRITER_BUFFER_SHORT;
@@ -79,7 +78,7 @@ pub fn write_two(
 // Kinds 1 and 5: a handle, and a length or the number of a count.
 pub fn write_word(out: &mut [u8], kind: u8, kept: u8, handle: [u8; HANDLE_BYTES], word: u16) -> u16
     requires { (kind < 32) × (kept < 2) }
-    ensures { wrote result out.new ≡ put (frame First kind (128 + 64 * kept) (handle ++ word_bytes word)) out.old }
+    ensures { wrote result out.new ≡ put (frame kind (128 + 64 * kept) (handle ++ word_bytes word)) out.old }
 {
     if out.len() < 16 {
         return WRITER_BUFFER_SHORT;
@@ -92,7 +91,7 @@ pub fn write_word(out: &mut [u8], kind: u8, kept: u8, handle: [u8; HANDLE_BYTES]
 // Kind 8: a limit, the hash count n and the hashes.
 pub fn write_hashes(out: &mut [u8], limit: u16, n: u8, hashes: &[u8]) -> u16
     requires { length hashes.now ≤ hash_room }
-    ensures { wrote result out.new ≡ put (frame First 8 128 (word_bytes limit ++ (n ∷ hashes.now))) out.old }
+    ensures { wrote result out.new ≡ put (frame 8 128 (word_bytes limit ++ (n ∷ hashes.now))) out.old }
 {
     let size = 3 + hashes.len();
     if out.len() < 4 + size {
@@ -128,7 +127,7 @@ fn put_right(
 // Kind 2: a handle, a key, a count, the hash count n above four zero bits, the hashes and the payload.
 pub fn write_right(out: &mut [u8], p: Plain, n: u8, hashes: &[u8], payload: &[u8]) -> u16
     requires { (p.kept < 2) × ((n < 16) × ((length hashes.now ≤ hash_room) × (length payload.now ≤ most_payload))) }
-    ensures { wrote result out.new ≡ put (frame First 2 (128 + 64 * p.kept) (right_body p n hashes.now payload.now)) out.old }
+    ensures { wrote result out.new ≡ put (frame 2 (128 + 64 * p.kept) (right_body p n hashes.now payload.now)) out.old }
 {
     let after = 33 + hashes.len();
     let end = after + payload.len();

@@ -9,7 +9,6 @@ use types.Run.{OneOf}
 use denote.Enum.Declared.{tag_of}
 use lib.ListN.{set}
 use Rattle.profile.specs.Bytes.{Bytes, over}
-use Rattle.profile.specs.declared.Edition.TheVariants.{First}
 use Rattle.profile.specs.Slot.{Count, raises, recount, Entry, enabled, taken}
 use Rattle.profile.specs.Table.{handle_of, count_of, right_of, slots_of}
 use Rattle.profile.specs.Frame.{count_raised, frame}
@@ -30,7 +29,7 @@ use Rattle.decisions.proofs.Answers.{Denied, refused_serves}
 use Rattle.decisions.proofs.Deciding.{expects, refuses, Held}
 
 -- ---- 5, refused: the reply has the status, and nothing is changed
-pub refuse_serves : {a : Answer} {T B B' : Bytes} {c : Change} {n : ℕ} → Denied n a → (B' ≡ over (frame First 5 n []) B) × (c ≡ Same) → Serves 5 a T B T B' c
+pub refuse_serves : {a : Answer} {T B B' : Bytes} {c : Change} {n : ℕ} → Denied n a → (B' ≡ over (frame 5 n []) B) × (c ≡ Same) → Serves 5 a T B T B' c
 refuse_serves d e = rw e.1 (refused_serves d e.0)
 
 -- ---- 5, on a record that is installed

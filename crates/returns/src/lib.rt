@@ -1,7 +1,6 @@
 // Kind 5, Rights Enablement: a right that was lent is returned. Every check precedes every change, and the reply is written with the
 // change.
 ghost use Rattle.std.specs.Prelude.{◌≡◌, [], ◌≤◌, length};
-ghost use Rattle.profile.specs.declared.Edition.TheVariants.{First};
 ghost use Rattle.profile.specs.Bytes.{over};
 ghost use Rattle.profile.specs.Frame.{frame};
 ghost use Rattle.profile.specs.Request.{enable as enablement};
@@ -19,7 +18,7 @@ use tallies::update::Change;
 // Refused with a status: no slot changes (PROFILE 4.2).
 fn refuse(reply: &mut [u8], status: u8) -> Change
     requires { 4 ≤ length reply.old }
-    ensures { (reply.new ≡ over (frame First 5 status []) reply.old) × (result ≡ Same) }
+    ensures { (reply.new ≡ over (frame 5 status []) reply.old) × (result ≡ Same) }
 {
     reply_writer::writer::reply_status(reply, 5, status);
     Change::Same

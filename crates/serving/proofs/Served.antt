@@ -1,21 +1,17 @@
 -- From the frame's reading to what it does: one law for each step. Assumes nothing.
-use Prim.Native.Nat.{ℕ, ◌+◌, ◌≤◌, ◌<◌}
+use Prim.Native.Nat.{ℕ, ◌<◌}
 use mathlib.Core.Path.{◌≡◌, refl, sym, ap, ◌∙◌}
-use mathlib.Core.Bool.{Bool, true, false, ◌&&◌}
-use mathlib.Core.List.{List, [], ◌∷◌}
+use mathlib.Core.Bool.{Bool, true, false}
+use mathlib.Core.List.{List}
 use native.Mathlib.Omega.{arith}
-use lib.Dec.{eqb, leb}
-use lib.ListN.{length}
-use Rattle.profile.specs.Bytes.{Bytes, if◌then◌else◌, word, over}
-use Rattle.profile.specs.declared.Edition.TheVariants.{First}
-use Rattle.profile.specs.Edition.{Edition}
+use lib.Dec.{eqb}
+use Rattle.profile.specs.Bytes.{Bytes, if◌then◌else◌}
 use Rattle.profile.specs.Slot.{Slot}
 use Rattle.profile.specs.Table.{slot_count, slots_of, whole_slots, well_table}
 use Rattle.profile.specs.Tally.{tally_of, tally_in}
-use Rattle.profile.specs.Frame.{frame_head, edition_in, kind_number}
-use Rattle.profile.specs.Request.{Request, setup, install, retrieve, rek, enable, remove, cancel, list, info, Read, asks, number_of, read_request, RequestFits}
-use Rattle.profile.specs.Agent.{the_right, the_key, Answer, find, when_found, other_edition, lend_at, act, first_empty_from, Call, table_after, status_byte, reply_body, reply_frame, obey, on_bytes}
-use Rattle.profile.proofs.Logic.{and_parts, leb_le}
+use Rattle.profile.specs.Frame.{kind_number}
+use Rattle.profile.specs.Request.{retrieve, rek, Read, asks, number_of, read_request, RequestFits}
+use Rattle.profile.specs.Agent.{the_right, the_key, Answer, find, when_found, lend_at, act, first_empty_from, Call, table_after, obey, on_bytes}
 use Rattle.profile.proofs.Lookup.{Free}
 use Rattle.profile.proofs.FirstEmpty.{first_free}
 use Rattle.profile.proofs.WellFormed.{count_slots}
@@ -33,9 +29,6 @@ use Rattle.tallies.specs.declared.update.Change.TheVariants.{Same}
 use Rattle.tallies.specs.Changes.{slots_then, change_in, updated}
 use Rattle.tallies.proofs.Changing.{none_moved}
 use Rattle.tallies.proofs.Answering.{Follows, follows, then_slots}
-use Rattle.buffers.specs.Over.{over_at}
-use Rattle.buffers.proofs.Heads.{of_edition}
-use Rattle.decisions.specs.Decisions.{held_by}
 use Rattle.decisions.specs.Serving.{Serves, answer_at, answer_to}
 use Rattle.refusals.specs.Refusing.{Refuses}
 use Rattle.lendings.specs.Lending.{lent_by}
@@ -48,32 +41,13 @@ why_means_lem f r a w x e d = ap why_means (d ∙ ap why_of e) ∙ sym (says_no 
 
 pub refusal_obeys : (f : Bytes) (w : Why) (buffer : Bytes) (n : ℕ) (buffer' : Bytes) → Refuses f w buffer n buffer' → why_means w ≡ read_request f
     → (free : ℕ) (t : List Slot) (table : Bytes) (c : Call) → c.buffer ≡ buffer → c.tally ≡ tally_in table
-    → outcome n buffer' table c.tally ≡ on_bytes (edition_in f) (kind_number f) (obey (edition_in f) (read_request f) free t) table c
-refusal_obeys f w buffer n buffer' s e free t table c b y = s.on_any free t table c b y ∙ ap (λ (r : Read). on_bytes (edition_in f) (kind_number f) (obey (edition_in f) r free t) table c) e
+    → outcome n buffer' table c.tally ≡ on_bytes (kind_number f) (obey (read_request f) free t) table c
+refusal_obeys f w buffer n buffer' s e free t table c b y = s.on_any free t table c b y ∙ ap (λ (r : Read). on_bytes (kind_number f) (obey r free t) table c) e
 
 -- ---- a request
--- of all kinds but 3 the answer is the same in either edition
-edition_unused : (e d : Edition) (free : ℕ) (t : List Slot) (q : Request) → (number_of q ≡ 3 → ⊥) → act e free t q ≡ act d free t q
-unfolding act
-edition_unused e d free t (setup h n) other = refl
-edition_unused e d free t (install h r) other = refl
-edition_unused e d free t (retrieve h k) other = absurd (other refl)
-edition_unused e d free t (rek h k) other = refl
-edition_unused e d free t (enable h c) other = refl
-edition_unused e d free t (remove h) other = refl
-edition_unused e d free t (cancel h) other = refl
-edition_unused e d free t (list limit q) other = refl
-edition_unused e d free t (info h) other = refl
-
 module _ {f : Bytes} {r : Asked} {b : Body} (a : Asks f r b) where
   pub reads_as : read_request f ≡ asks (body_means f b r)
   reads_as = says_yes f r a.answers b a.yes
-
-  -- such a frame has its head
-  pub request_4 : 4 ≤ length f
-  request_4 =
-      let x : Reads f (body_means f b r) = rw reads_as at (reads f) in
-      leb_le 4 (length f) (and_parts (leb 4 (length f)) (eqb (length f) (4 + word 2 f)) x.is_frame_lem).0
 
   -- the kind in the frame is the request's
   kind_is : number_of (body_means f b r) ≡ kind_number f
@@ -83,56 +57,40 @@ module _ {f : Bytes} {r : Asked} {b : Body} (a : Asks f r b) where
 
   -- the body x was served, and it is the one that the frame has
   module _ (free : ℕ) {x : Body} (e : b ≡ x) {table buffer table' buffer' : Bytes} {y : Change} where
-    served_in : Serves (number_of (body_means f x r)) (answer_at (edition_in f) free table (body_means f x r)) table buffer table' buffer' y
-        → Serves (kind_number f) (answer_at (edition_in f) free table (body_means f b r)) table buffer table' buffer' y
-    served_in s = rw (← kind_is, e) s
+    pub served_at : Serves (number_of (body_means f x r)) (answer_at free table (body_means f x r)) table buffer table' buffer' y
+        → Serves (kind_number f) (answer_at free table (body_means f b r)) table buffer table' buffer' y
+    served_at s = rw (← kind_is, e) s
 
-    -- kind 1, which knows no edition
-    pub served_at : (number_of (body_means f x r) ≡ 3 → ⊥) → Serves (number_of (body_means f x r)) (answer_at First free table (body_means f x r)) table buffer table' buffer' y
-        → Serves (kind_number f) (answer_at (edition_in f) free table (body_means f b r)) table buffer table' buffer' y
-    served_at l s = served_in (rw (edition_unused (edition_in f) First free (slots_of table) (body_means f x r) l) s)
+    -- kinds 2 to 9, which take no free slot
+    pub served : 1 < number_of (body_means f x r) → Serves (number_of (body_means f x r)) (answer_to table (body_means f x r)) table buffer table' buffer' y
+        → Serves (kind_number f) (answer_at free table (body_means f b r)) table buffer table' buffer' y
+    served l s = served_at (rw (slot_unused free 0 (slots_of table) (body_means f x r) (λ h n q. absurd (omega (arith, l, ap number_of q)))) s)
 
-    -- kinds 3 and 4, which take no free slot
-    pub served_lent : 1 < number_of (body_means f x r) → Serves (number_of (body_means f x r)) (answer_at (edition_in f) 0 table (body_means f x r)) table buffer table' buffer' y
-        → Serves (kind_number f) (answer_at (edition_in f) free table (body_means f b r)) table buffer table' buffer' y
-    served_lent l s = served_in (rw (slot_unused (edition_in f) free 0 (slots_of table) (body_means f x r) (λ h n q. absurd (omega (arith, l, ap number_of q)))) s)
-
-    -- the others, which take no free slot and know no edition
-    pub served : 1 < number_of (body_means f x r) → (number_of (body_means f x r) ≡ 3 → ⊥) → Serves (number_of (body_means f x r)) (answer_to table (body_means f x r)) table buffer table' buffer' y
-        → Serves (kind_number f) (answer_at (edition_in f) free table (body_means f b r)) table buffer table' buffer' y
-    served l m s = served_lent l (rw (edition_unused (edition_in f) First 0 (slots_of table) (body_means f x r) m) s)
-
-  fits : RequestFits (edition_in f) (body_means f b r)
+  fits : RequestFits (body_means f b r)
   fits = read_fits f (body_means f b r) (rw reads_as at (reads f))
 
   -- what the answer changed can be taken into the tally of the table, and brings it up to date
-  module _ (start : ℕ) {table buffer table' buffer' buffer'' : Bytes} {y : Change} (whole : whole_slots table ≡ true) (well : well_table table ≡ true) (inside : start < slot_count table)
-      (s : Serves (kind_number f) (answer_at (edition_in f) (first_empty_from start (slots_of table)) table (body_means f b r)) table buffer table' buffer' y)
-      (put : buffer'' ≡ over_at 0 (frame_head (edition_in f) (kind_number f) ∷ []) buffer') where
+  module _ (start : ℕ) {table buffer table' buffer' : Bytes} {y : Change} (whole : whole_slots table ≡ true) (well : well_table table ≡ true) (inside : start < slot_count table)
+      (s : Serves (kind_number f) (answer_at (first_empty_from start (slots_of table)) table (body_means f b r)) table buffer table' buffer' y) where
     abbrev free : ℕ
     free = first_empty_from start (slots_of table)
 
     abbrev answer : Answer
-    answer = answer_at (edition_in f) free table (body_means f b r)
+    answer = answer_at free table (body_means f b r)
 
     is_free : Free free (slots_of table)
     is_free = first_free start (slots_of table) (rw (count_slots table whole well) inside)
 
     follows_change : Follows (slots_of table) answer
-    follows_change = follows table whole well free is_free (edition_in f) (body_means f b r) fits
+    follows_change = follows table whole well free is_free (body_means f b r) fits
 
     slots_then_lem : slots_then (slots_of table) answer ≡ slots_of (table_after table answer)
-    slots_then_lem = then_slots table whole well free is_free (edition_in f) (body_means f b r) fits
+    slots_then_lem = then_slots table whole well free is_free (body_means f b r) fits
 
-    -- the reply, once its edition is set
-    reply_set : buffer'' ≡ over (reply_frame (edition_in f) (kind_number f) answer) buffer
-    unfolding reply_frame
-    reply_set = put ∙ ap (over_at 0 (frame_head (edition_in f) (kind_number f) ∷ [])) s.reply_is ∙ sym (of_edition (edition_in f) (kind_number f) (status_byte answer) (reply_body answer) buffer)
-
-    pub obeys : Obeys table start f buffer table' buffer'' 0 y
+    pub obeys : Obeys table start f buffer table' buffer' 0 y
     obeys =
         record {
-          is = rw reads_as (λ i. outcome 0 (reply_set i) (s.table_is i) (is-updated i));
+          is = rw reads_as (λ i. outcome 0 (s.reply_is i) (s.table_is i) (is-updated i));
           changed = s.change_is ∙ ap (change_in (slots_of table)) (slots_then_lem ∙ ap slots_of (sym s.table_is));
           updates = rw s.change_is follows_change.updates;
         }
@@ -151,13 +109,13 @@ refused_obeys f w buffer n buffer' s e table start =
     }
 
 -- ---- kinds 3 and 4
-pub lent_as : (ed : Edition) (kind : ℕ) (h k : Bytes) {table buffer table' buffer' : Bytes} {y : Change}
-    → Serves kind (when_found (find h (slots_of table)) (lend_at (slots_of table) k (held_by kind ed) (lent_by kind))) table buffer table' buffer' y
-    → Serves kind (answer_at ed 0 table (lends_by kind h k)) table buffer table' buffer' y
+pub lent_as : (kind : ℕ) (h k : Bytes) {table buffer table' buffer' : Bytes} {y : Change}
+    → Serves kind (when_found (find h (slots_of table)) (lend_at (slots_of table) k (lent_by kind))) table buffer table' buffer' y
+    → Serves kind (answer_to table (lends_by kind h k)) table buffer table' buffer' y
 unfolding act
-lent_as ed kind h k {table} {buffer} {table'} {buffer'} {y} = go (eqb kind 3)
+lent_as kind h k {table} {buffer} {table'} {buffer'} {y} = go (eqb kind 3)
   where
-    go : (b : Bool) → Serves kind (when_found (find h (slots_of table)) (lend_at (slots_of table) k (λ r. b && other_edition ed r) (λ r. if b then the_right r else the_key r.key))) table buffer table' buffer' y
-        → Serves kind (answer_at ed 0 table (if b then retrieve h k else rek h k)) table buffer table' buffer' y
+    go : (b : Bool) → Serves kind (when_found (find h (slots_of table)) (lend_at (slots_of table) k (λ r. if b then the_right r else the_key r.key))) table buffer table' buffer' y
+        → Serves kind (answer_to table (if b then retrieve h k else rek h k)) table buffer table' buffer' y
     go true s = s
     go false s = s

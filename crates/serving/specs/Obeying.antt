@@ -3,7 +3,7 @@ use Rattle.std.specs.Prelude.{ℕ, ◌≡◌, eqb}
 use Rattle.profile.specs.Bytes.{Bytes, if◌then◌else◌}
 use Rattle.profile.specs.Table.{slots_of}
 use Rattle.profile.specs.Tally.{tally_in}
-use Rattle.profile.specs.Frame.{edition_in, kind_number}
+use Rattle.profile.specs.Frame.{kind_number}
 use Rattle.profile.specs.Request.{Request, retrieve, rek, read_request}
 use Rattle.profile.specs.Agent.{first_empty_from, obey, on_bytes}
 use Rattle.request_reader.specs.declared.asked.Why.{Why}
@@ -35,6 +35,6 @@ pub record Asks (f : Bytes) (r : Asked) (b : Body) : Type 0 where
 -- the one from the slots before to those after, and can be taken into the tally
 pub record Obeys (table : Bytes) (start : ℕ) (frame buffer table' buffer' : Bytes) (n : ℕ) (change : Change) : Type 0 where
   pub is : outcome n buffer' table' (updated (tally_in table) change)
-      ≡ on_bytes (edition_in frame) (kind_number frame) (obey (edition_in frame) (read_request frame) (first_empty_from start (slots_of table)) (slots_of table)) table (call_of (tally_in table) start frame buffer)
+      ≡ on_bytes (kind_number frame) (obey (read_request frame) (first_empty_from start (slots_of table)) (slots_of table)) table (call_of (tally_in table) start frame buffer)
   pub changed : change ≡ change_in (slots_of table) (slots_of table')
   pub updates : Updates (tally_in table) change

@@ -1,15 +1,13 @@
 // What a frame does on a well-formed table: its refusal, or its request served by its kind (PROFILE 4.3 and 5).
-ghost use Rattle.std.specs.Prelude.{◌≡◌, ◌<◌, ◌≤◌, length, [], ◌∷◌};
+ghost use Rattle.std.specs.Prelude.{◌≡◌, ◌<◌, ◌≤◌};
 ghost use Rattle.profile.specs.Table.{slot_count, slots_of};
-ghost use Rattle.profile.specs.Frame.{frame_head, edition_in, kind_number};
+ghost use Rattle.profile.specs.Frame.{kind_number};
 ghost use Rattle.profile.specs.Agent.{first_empty_from};
 ghost use Rattle.request_reader.specs.Answer.{body_means};
-ghost use Rattle.buffers.specs.Over.{over_at};
-ghost use Rattle.decisions.specs.Serving.{Ready, Serves, answer_at};
+ghost use Rattle.decisions.specs.Serving.{Ready, Serves, answer_at, answer_to};
 ghost use Rattle.serving.specs.Obeying.{why_of, lends_by, Asks, Obeys};
 
 use decisions::decision::{AWAITED, INSTALLED};
-use profile::Edition;
 use profile::number::DONE;
 use request_reader::asked::{Ask, Asked, Body, Why};
 use tallies::update::Change;
@@ -25,17 +23,16 @@ fn why_of(ask: Ask) -> Why
 }
 
 // Kinds 3 and 4, by their number. The handles are locals of this function and not of `serve`: there they would take stack in every call.
-fn lend(table: &mut [u8], reply: &mut [u8], asked: Asked, kind: u8, edition: Edition) -> Change
+fn lend(table: &mut [u8], reply: &mut [u8], asked: Asked, kind: u8) -> Change
     requires { Ready table.old reply.old × (3 ≤ kind) × (kind ≤ 4) }
-    ensures { Serves kind (answer_at edition 0 table.old (lends_by kind asked.handle asked.new)) table.old reply.old table.new reply.new result }
+    ensures { Serves kind (answer_to table.old (lends_by kind asked.handle asked.new)) table.old reply.old table.new reply.new result }
 {
     let h = asked.handle;
     let k = asked.new;
-    lendings::lend(table, reply, h, k, kind, edition)
+    lendings::lend(table, reply, h, k, kind)
 }
 
-// What a request does, kind by kind, and what it changed. Each takes from what was read the fields that it has; only a setup takes the start,
-// and only the kinds with hashes the edition. The reply is of version 1.
+// What a request does, kind by kind, and what it changed. Each takes from what was read the fields that it has; only a setup takes the start.
 fn serve(
     table: &mut [u8],
     start: usize,
@@ -45,9 +42,8 @@ fn serve(
     body: Body,
 ) -> Change
     requires { Ready table.old reply.old × (start < slot_count table.old) × Asks frame.now asked body }
-    ensures { Serves (kind_number frame.now) (answer_at (edition_in frame.now) (first_empty_from start (slots_of table.old)) table.old (body_means frame.now body asked)) table.old reply.old table.new reply.new result }
+    ensures { Serves (kind_number frame.now) (answer_at (first_empty_from start (slots_of table.old)) table.old (body_means frame.now body asked)) table.old reply.old table.new reply.new result }
 {
-    let edition = request_reader::reader::edition_in(frame);
     let kind = match body {
         Body::Setup { length } => {
             let h = asked.handle;
@@ -57,9 +53,7 @@ fn serve(
             let h = asked.handle;
             let key = asked.key;
             let count = asked.count;
-            return setups::install::install(
-                table, reply, h, key, count, edition, hashes, frame, at, length,
-            );
+            return setups::install::install(table, reply, h, key, count, hashes, frame, at, length);
         }
         Body::Retrieve => 3,
         Body::Rek => 4,
@@ -77,7 +71,7 @@ fn serve(
             return removals::clear(table, reply, h, 7, AWAITED);
         }
         Body::List { limit, hashes, at } => {
-            queries::handle_list(table, reply, limit, edition, hashes, frame, at);
+            queries::handle_list(table, reply, limit, hashes, frame, at);
             return Change::Same;
         }
         Body::Info => {
@@ -86,16 +80,7 @@ fn serve(
             return Change::Same;
         }
     };
-    lend(table, reply, asked, kind, edition)
-}
-
-// PROFILE 3.2: a reply is of the edition that was asked. All its other bytes stay.
-fn set_edition(frame: &[u8], reply: &mut [u8])
-    requires { (4 ≤ length frame.now) × (1 ≤ length reply.old) }
-    ensures { reply.new ≡ over_at 0 (frame_head (edition_in frame.now) (kind_number frame.now) ∷ []) reply.old }
-{
-    let edition = request_reader::reader::edition_in(frame);
-    buffers::put_edition(reply, edition, bits::fields::frame_kind(frame[0]));
+    lend(table, reply, asked, kind)
 }
 
 // What comes of a frame: the number of the call, and what was done to the slots.
@@ -120,7 +105,6 @@ pub fn answer(table: &mut [u8], start: usize, frame: &[u8], reply: &mut [u8]) ->
         };
     };
     let change = serve(table, start, frame, reply, asked, body);
-    set_edition(frame, reply);
     Answered {
         number: DONE,
         change: change,

@@ -9,7 +9,6 @@ use lib.Dec.{leb, ltb}
 use lib.ListN.{length, set, get_elem?}
 use Rattle.profile.specs.Bytes.{Bytes}
 use Rattle.profile.specs.Sizes.{most_payload}
-use Rattle.profile.specs.declared.Edition.TheVariants.{First}
 use Rattle.profile.specs.Slot.{Right, Entry, reserved, enabled, empty, taken, in_use}
 use Rattle.profile.specs.Table.{place_of, length_of, slot_count, slots_of}
 use Rattle.profile.specs.Frame.{parameter, duplicate, no_space, code}
@@ -59,7 +58,7 @@ module _ (T h : Bytes) (x : Right) where
 -- ---- 1, by its tests, whichever slot is the free one
 module _ (T h : Bytes) (n free : ℕ) where
   abbrev answer : Answer
-  answer = answer_at First free T (setup h n)
+  answer = answer_at free T (setup h n)
 
   pub no_length : n ≡ 0 → Denied (code parameter) answer
   unfolding act

@@ -5,10 +5,10 @@ ghost use Rattle.decisions.specs.Serving.{Ready, Serves, answer_to};
 ghost use Rattle.setups.specs.Sending.{Sent};
 
 use decisions::decision::{AWAITED, Decision};
+use profile::Count;
 use profile::sizes::{HANDLE_BYTES, KEY_BYTES};
 use profile::slot::LENGTH_AT;
 use profile::status::{NOT_ENOUGH_SPACE, SUCCESS};
-use profile::{Count, Edition};
 use slots::place::Place;
 use tallies::update::Change;
 
@@ -20,14 +20,13 @@ pub fn install(
     h: [u8; HANDLE_BYTES],
     key: [u8; KEY_BYTES],
     count: Count,
-    edition: Edition,
     hashes: usize,
     frame: &[u8],
     at: usize,
     size: usize,
 ) -> Change
-    requires { Ready table.old reply.old × Sent edition frame.now at hashes size }
-    ensures { Serves 2 (answer_to table.old (installation h (right_from edition key count hashes size frame.now at))) table.old reply.old table.new reply.new result }
+    requires { Ready table.old reply.old × Sent frame.now at hashes size }
+    ensures { Serves 2 (answer_to table.old (installation h (right_from key count hashes size frame.now at))) table.old reply.old table.new reply.new result }
 {
     match decisions::decision::slot_under(table, h, AWAITED) {
         Decision::Refuse(status) => {
@@ -40,7 +39,7 @@ pub fn install(
                 reply_writer::writer::reply_status(reply, 2, NOT_ENOUGH_SPACE);
                 return Change::Same;
             }
-            changes::store_right(table, i, h, key, count, edition, hashes, frame, at, size);
+            changes::store_right(table, i, h, key, count, hashes, frame, at, size);
             reply_writer::writer::reply_status(reply, 2, SUCCESS);
             Change::Moved(Place::Reserved, room, Place::Enabled, size as u16)
         }

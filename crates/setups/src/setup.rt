@@ -1,5 +1,4 @@
 // Kind 1, Installation Setup.
-ghost use Rattle.profile.specs.declared.Edition.TheVariants.{First};
 ghost use Rattle.profile.specs.Request.{setup as asking};
 ghost use Rattle.std.specs.Prelude.{◌<◌};
 ghost use Rattle.profile.specs.Table.{slot_count, slots_of};
@@ -21,7 +20,7 @@ pub fn set_up(
     n: u16,
 ) -> Change
     requires { Ready table.old reply.old × (start < slot_count table.old) }
-    ensures { Serves 1 (answer_at First (first_empty_from start (slots_of table.old)) table.old (asking h n)) table.old reply.old table.new reply.new result }
+    ensures { Serves 1 (answer_at (first_empty_from start (slots_of table.old)) table.old (asking h n)) table.old reply.old table.new reply.new result }
 {
     if n == 0 {
         reply_writer::writer::reply_status(reply, 1, PARAMETER_FAILED);

@@ -28,8 +28,7 @@ one_place p q e = sym (back p) ∙ ap numbered e ∙ back q
 pub one_head : (s : Bytes) (h k : Head) → HeadOf s h → HeadOf s k → h ≡ k
 one_head s h k p q =
     let places = one_place h.place k.place (p.place_is ∙ sym q.place_is) in
-    let editions = p.edition_is ∙ sym q.edition_is in
     let hashes = p.hashes_are ∙ sym q.hashes_are in
     let counts = p.count_is ∙ sym q.count_is in
     let lengths = p.length_is ∙ sym q.length_is in
-    λ i. record { place = places i; edition = editions i; hashes = hashes i; count = counts i; length = lengths i }
+    λ i. record { place = places i; hashes = hashes i; count = counts i; length = lengths i }

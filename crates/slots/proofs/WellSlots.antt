@@ -9,13 +9,12 @@ use lib.Dec.{eqb, leb, ltb}
 use lib.ListN.{length, get_or, take, drop, length-drop}
 use lib.Seq.{take_all, take-suc, drop-drop, get_or-drop}
 use Rattle.profile.specs.Bytes.{Bytes, byte, part, word, all_zero}
-use Rattle.profile.specs.Edition.{Edition, hash_size, most_hashes}
 use Rattle.profile.specs.Slot.{count_holds}
-use Rattle.profile.specs.Table.{place_of, hash_count_of, kept_of, long_of, edition_at, hashes_hold, well_placed, well_count, well_rest, well_slot}
+use Rattle.profile.specs.Table.{place_of, hash_count_of, kept_of, spare_of, well_placed, well_count, well_rest, well_slot}
 use Rattle.profile.specs.Turning.{well_before}
 use Rattle.profile.proofs.Logic.{both, and_parts, from_1_to_says}
 use Rattle.profile.proofs.Strings.{zero_byte, zero_drop}
-use Rattle.profile.proofs.Unpack.{well_slot_lem, slot_few, well_reserved_lem}
+use Rattle.profile.proofs.Unpack.{well_slot_lem, well_reserved_lem}
 use Rattle.zeros.proofs.ZeroBytes.{zero_both}
 use Rattle.slots.specs.declared.place.Place.{Place}
 use Rattle.slots.specs.declared.place.Place.TheVariants.{Empty, Reserved, Enabled, Disabled}
@@ -56,11 +55,11 @@ module _ (s : Bytes) where
   well_parts false low rest a b = rw (a, b)
 
   -- the two lowest bits, by either rules
-  pub low_before : (old : Bool) (kept long : ℕ) → old ≡ true → kept ≡ kept_of s → long ≡ long_of s → (eqb kept 0 && eqb long 0) ≡ low_by old s
-  low_before old kept long p a b = rw (p, a, b)
+  pub low_before : (old : Bool) (kept spare : ℕ) → old ≡ true → kept ≡ kept_of s → spare ≡ spare_of s → (eqb kept 0 && eqb spare 0) ≡ low_by old s
+  low_before old kept spare p a b = rw (p, a, b)
 
-  pub low_today : (old counted : Bool) → old ≡ false → counted ≡ well_count s → counted ≡ low_by old s
-  low_today old counted p a = rw p a
+  pub low_today : (old : Bool) (spare : ℕ) (counted : Bool) → old ≡ false → spare ≡ spare_of s → counted ≡ well_count s → (eqb spare 0 && counted) ≡ low_by old s
+  low_today old spare counted p a b = rw (p, a, b)
 
   pub empty_slot : place_of s ≡ 0 → well_rest s ≡ all_zero s
   unfolding well_rest
@@ -72,9 +71,9 @@ module _ (s : Bytes) where
       go false z = rw (at, z, and-false)
 
   -- ---- the two bounds
-  pub hashes_wrong : hashes_hold (edition_at s) (hash_count_of s) ≡ false → well_rest s ≡ false
+  pub too_many_hashes : 8 < hash_count_of s → well_rest s ≡ false
   unfolding well_rest
-  hashes_wrong h = rw (h, and-false)
+  too_many_hashes h = rw (lt-leb (hash_count_of s) 8 h, and-false)
 
   pub too_long : 0 < place_of s → 4096 < word 29 s → well_rest s ≡ false
   unfolding well_rest
@@ -103,42 +102,45 @@ module _ (s : Bytes) (len-s : length s ≡ 4288) where
       (and_comm (all_zero (part a n s)) (eqb (byte 191 s) 0)))
 
   -- the tests that are left where the two bounds hold, by place
-  pub taken_parts : (p : Place) (hashes len m : ℕ) (gap rest awaits : Bool) → place_number p ≡ place_of s → 0 < place_of s
-      → hashes ≡ hash_count_of s → len ≡ word 29 s → hashes_hold (edition_at s) (hash_count_of s) ≡ true → m ≡ hash_size (edition_at s) * hash_count_of s → m ≤ 160 → len ≤ 4096
-      → gap ≡ all_zero (part (31 + m) (192 - (31 + m)) s)
+  pub taken_parts : (p : Place) (hashes len : ℕ) (gap rest awaits : Bool) → place_number p ≡ place_of s → 0 < place_of s
+      → hashes ≡ hash_count_of s → len ≡ word 29 s → hashes ≤ 8 → len ≤ 4096
+      → gap ≡ all_zero (part (31 + 20 * hashes) (192 - (31 + 20 * hashes)) s)
       → rest ≡ all_zero (part (192 + payload_in p len) (4288 - (192 + payload_in p len)) s)
       → awaits ≡ awaits_well p hashes s
       → (gap && rest && ltb 0 len && awaits) ≡ well_rest s
   unfolding well_rest
-  taken_parts p hashes len m gap rest awaits at taken e-hashes e-len few e-m room short e-gap e-rest e-awaits =
+  taken_parts p hashes len gap rest awaits at taken e-hashes e-len few short e-gap e-rest e-awaits =
       go p at (e-rest ∙ zero_tail (192 + payload_in p len)) e-awaits
     where
+      few' : leb (hash_count_of s) 8 ≡ true
+      few' = le-leb (hash_count_of s) 8 (rw e-hashes at few)
+
       short' : leb (word 29 s) 4096 ≡ true
       short' = le-leb (word 29 s) 4096 (rw e-len at short)
 
-      g : gap ≡ (eqb (byte 191 s) 0 && all_zero (part (31 + hash_size (edition_at s) * hash_count_of s) (160 - hash_size (edition_at s) * hash_count_of s) s))
+      g : gap ≡ (eqb (byte 191 s) 0 && all_zero (part (31 + 20 * hash_count_of s) (160 - 20 * hash_count_of s) s))
       g =
-          let e : 191 - (31 + m) ≡ 160 - m = omega arith in
-          rw (e, e-m) at (e-gap ∙ zero_gap (31 + m) (omega (arith, room)))
+          let e : 191 - (31 + 20 * hashes) ≡ 160 - 20 * hashes = omega arith in
+          rw (e, e-hashes) at (e-gap ∙ zero_gap (31 + 20 * hashes) (omega (arith, few)))
 
       go : (p : Place) → place_number p ≡ place_of s → rest ≡ all_zero (drop (192 + payload_in p len) s) → awaits ≡ awaits_well p hashes s
           → (gap && rest && ltb 0 len && awaits) ≡ well_rest s
       go Empty q r w = absurd (omega (arith, taken, q))
-      go Enabled q r w = rw (sym q, g, rw e-len at r, w, e-len, few, short') (simp (and-true, and_assoc))
-      go Disabled q r w = rw (sym q, g, rw e-len at r, w, e-len, few, short') (simp (and-true, and_assoc))
+      go Enabled q r w = rw (sym q, g, rw e-len at r, w, e-len, few', short') (simp (and-true, and_assoc))
+      go Disabled q r w = rw (sym q, g, rw e-len at r, w, e-len, few', short') (simp (and-true, and_assoc))
       go Reserved q r w = split (all_zero (drop 192 s)) refl
         where
           split : (b : Bool) → all_zero (drop 192 s) ≡ b
               → (gap && rest && ltb 0 len && awaits) ≡ well_rest s
           split true z =
               let t : all_zero (drop (192 + word 29 s) s) ≡ true = rw (drop-drop (word 29 s) 192 s) at (zero_drop (word 29 s) (drop 192 s) z) in
-              rw (sym q, g, r, w, e-len, e-hashes, z, t, few, short') (simp (and-true, and_assoc))
+              rw (sym q, g, r, w, e-len, e-hashes, z, t, few', short') (simp (and-true, and_assoc))
           split false z = rw (sym q, r, z) (simp and-false)
 
 -- ---- what holds in a well-formed slot
 module _ (s : Bytes) (well : well_slot s ≡ true) where
-  pub few_hashes : hash_count_of s ≤ most_hashes (edition_at s)
-  few_hashes = slot_few s (well_slot_lem s well).others
+  pub few_hashes : hash_count_of s ≤ 8
+  few_hashes = (well_slot_lem s well).others.few
 
   -- the bit and the number of an enabled or disabled slot say a count
   pub count_said : 2 ≤ place_of s → count_holds (kept_of s) (word 27 s) ≡ true

@@ -9,7 +9,7 @@ ghost use Rattle.slots.specs.Taken.{payload_in, awaits_well};
 use crate::head::Head;
 use crate::place::Place;
 use profile::place::ENABLED;
-use profile::sizes::{MOST_PAYLOAD, SLOT_BYTES};
+use profile::sizes::{HASH_BYTES, MOST_HASHES, MOST_PAYLOAD, SLOT_BYTES};
 use profile::slot::{COUNT_AT, HASHES_AT, KEY_AT, LENGTH_AT, PAYLOAD_AT};
 
 // How many payload bytes of a record may be other than 0. The length of a reservation is the room asked for: it has no payload yet.
@@ -40,31 +40,29 @@ fn awaits_well(s: &[u8], place: Place, hashes: usize) -> bool
     }
 }
 
-// The rules for a slot that is not empty, but for the bit of a count: hashes as its mark has them; the bytes between the last hash and the payload,
+// The rules for a slot that is not empty, but for the two lowest bits of byte 0: the bytes between the last hash and the payload,
 // and those after the payload are zero; hash count and length are in bounds. Only the tests that bound a part return at once.
 fn well_taken(s: &[u8], head: Head) -> bool
     requires { (length s.now ≡ slot_size) × HeadOf s.now head × (0 < place_of s.now) }
     ensures { result ≡ well_rest s.now }
 {
     let place = head.place;
-    let edition = head.edition;
     let hashes = head.hashes;
     let length = head.length;
-    if !editions::hashes_hold(edition, hashes) {
+    if hashes > MOST_HASHES {
         return false;
     }
     if length > MOST_PAYLOAD {
         return false;
     }
     let payload = payload_in(place, length);
-    let size = editions::bytes_of(edition, hashes);
-    let gap = zeros::zero_part(s, HASHES_AT + size, PAYLOAD_AT);
+    let gap = zeros::zero_part(s, HASHES_AT + HASH_BYTES * hashes, PAYLOAD_AT);
     let rest = zeros::zero_part(s, PAYLOAD_AT + payload, SLOT_BYTES);
     let awaits = awaits_well(s, place, hashes);
     gap & rest & (0 < length) & awaits
 }
 
-// All but the bit of a count. All bytes of an empty slot are zero; any other slot has a record.
+// All but the two lowest bits of byte 0. All bytes of an empty slot are zero; any other slot has a record.
 fn well_rest(s: &[u8]) -> bool
     requires { length s.now ≡ slot_size }
     ensures { result ≡ well_rest s.now }
@@ -88,15 +86,16 @@ fn well_count(s: &[u8]) -> bool
     counts::count_holds(kept, words::word_at(s, COUNT_AT))
 }
 
-// What the rules say of the two lowest bits of byte 0, besides: today the bit of a count goes with it. Before, both were to spare (PROFILE 2.7).
+// The two lowest bits of byte 0: today the bit of a count and a spare bit. Before, both were to spare (PROFILE 2.7).
 fn well_low(s: &[u8], old: bool) -> bool
     requires { length s.now ≡ slot_size }
     ensures { result ≡ low_by old s.now }
 {
+    let spare = bits::fields::slot_spare(s[0]);
     if old {
-        return (bits::fields::slot_kept(s[0]) == 0) & (bits::fields::slot_long(s[0]) == 0);
+        return (bits::fields::slot_kept(s[0]) == 0) & (spare == 0);
     }
-    well_count(s)
+    (spare == 0) & well_count(s)
 }
 
 // By the rules of today, or by those from before counts had their bit.

@@ -6,9 +6,8 @@ use mathlib.Core.Bool.{true}
 use native.Mathlib.Omega.{arith}
 use lib.ListN.{length}
 use Rattle.profile.specs.Bytes.{Bytes, part, word}
-use Rattle.profile.specs.Edition.{most_hashes}
 use Rattle.profile.specs.Slot.{Entry, reserved, enabled, disabled, Slot, taken}
-use Rattle.profile.specs.Table.{place_of, hash_count_of, edition_at, right_of, unpack, well_slot, well_table, slot_count, slots_of}
+use Rattle.profile.specs.Table.{place_of, hash_count_of, right_of, unpack, well_slot, well_table, slot_count, slots_of}
 use Rattle.profile.specs.Agent.{Found, absent, one, find}
 use Rattle.slots.specs.declared.place.Place.{Place}
 use Rattle.slots.specs.declared.place.Place.TheVariants.{Empty, Reserved, Enabled, Disabled}
@@ -76,7 +75,7 @@ pub record RecordAt (t h : Bytes) (i : ℕ) (e : Entry) : Type 0 where
 pub record RecordFits (s : Bytes) : Type 0 where
   pub sized : length s ≡ 4288
   pub well : well_slot s ≡ true
-  pub few : hash_count_of s ≤ most_hashes (edition_at s)
+  pub few : hash_count_of s ≤ 8
   pub long : (1 ≤ word 29 s) × (word 29 s ≤ 4096)
 
 module _ (t h : Bytes) (i : ℕ) where

@@ -8,7 +8,6 @@ use mathlib.Core.Bool.{true}
 use native.Mathlib.Omega.{arith}
 use lib.ListN.{length, get_elem?}
 use Rattle.profile.specs.Bytes.{Bytes}
-use Rattle.profile.specs.Edition.{Edition}
 use Rattle.profile.specs.Slot.{Right, Entry, reserved, enabled, disabled, Slot, empty, taken, TableFits}
 use Rattle.profile.specs.Table.{slots_of, whole_slots, well_table}
 use Rattle.profile.specs.Tally.{tally_of}
@@ -71,13 +70,13 @@ pub record Follows (t : List Slot) (a : Answer) : Type 0 where
 follows_same : (t : List Slot) (a : Answer) → slots_then t a ≡ t → Follows t a
 follows_same t a e = record { updates = rw (e, none_moved t) tt; is_tally = rw (e, none_moved t) refl }
 
-module _ (table : Bytes) (whole : whole_slots table ≡ true) (well : well_table table ≡ true) (free : ℕ) (z : Free free (slots_of table)) (ed : Edition) (q : Request) (f : RequestFits ed q) where
+module _ (table : Bytes) (whole : whole_slots table ≡ true) (well : well_table table ≡ true) (free : ℕ) (z : Free free (slots_of table)) (q : Request) (f : RequestFits q) where
   abbrev t : List Slot
   t = slots_of table
 
   done_fits : (g : Given) (u : List Slot) → Does free t q g u → TableFits u × (length u ≤ 15)
   done_fits g u d =
-      let x = fitting t (table_fits table whole well) ed free q f g u d in
+      let x = fitting t (table_fits table whole well) free q f g u d in
       (x.0, rw x.1 (few_slots table whole well))
 
   follows_by : (a : Answer) → Answers free t q a → Follows t a
@@ -90,13 +89,13 @@ module _ (table : Bytes) (whole : whole_slots table ≡ true) (well : well_table
           let x = done_fits g u d in
           record { updates = one_updates t u o x.0 x.1; is_tally = one_updated t u o }
 
-  pub follows : Follows t (act ed free t q)
-  follows = follows_by (act ed free t q) (acts ed free t q)
+  pub follows : Follows t (act free t q)
+  follows = follows_by (act free t q) (acts free t q)
 
   -- these are the slots of the table's bytes afterwards
   then_by : (a : Answer) → Answers free t q a → slots_then t a ≡ slots_of (table_after table a)
   then_by (deny r) d = refl
   then_by (done g u) d = sym (slots_table u (done_fits g u d).0)
 
-  pub then_slots : slots_then t (act ed free t q) ≡ slots_of (table_after table (act ed free t q))
-  then_slots = then_by (act ed free t q) (acts ed free t q)
+  pub then_slots : slots_then t (act free t q) ≡ slots_of (table_after table (act free t q))
+  then_slots = then_by (act free t q) (acts free t q)

@@ -76,8 +76,8 @@ payload_most : (t : List Slot) → TableFits t → sum (λ s. (in_slot s).payloa
 payload_most [] f = omega arith
 payload_most (empty ∷ t) f = omega (arith, payload_most t f.1)
 payload_most (taken h (reserved n) ∷ t) f = omega (arith, payload_most t f.1)
-payload_most (taken h (enabled r) ∷ t) f = omega (arith, payload_most t f.1, f.0.1.fits.room.short)
-payload_most (taken h (disabled r) ∷ t) f = omega (arith, payload_most t f.1, f.0.1.fits.room.short)
+payload_most (taken h (enabled r) ∷ t) f = omega (arith, payload_most t f.1, f.0.1.room.short)
+payload_most (taken h (disabled r) ∷ t) f = omega (arith, payload_most t f.1, f.0.1.room.short)
 
 pub tally_small : (t : List Slot) → TableFits t → length t ≤ 15 → Small (tally_of t)
 tally_small t f few =

@@ -11,7 +11,7 @@ use lib.ListN.{get_elem?}
 use Rattle.profile.specs.Bytes.{Bytes}
 use Rattle.profile.specs.Slot.{Right, Entry, reserved, enabled, disabled, Slot, empty, taken}
 use Rattle.profile.specs.Table.{slots_of, whole_slots, well_table}
-use Rattle.profile.specs.Frame.{edition_in, kind_number}
+use Rattle.profile.specs.Frame.{kind_number}
 use Rattle.profile.specs.Request.{Request, setup, install, retrieve, rek, enable, remove, cancel, list, info, Read, asks, refused, no_frame, read_request}
 use Rattle.profile.specs.Agent.{Given, Answer, deny, done, find, act, status, Call, Outcome, refuse, replied, obey, on_bytes, agent}
 use Rattle.profile.specs.Run.{exchange}
@@ -85,15 +85,14 @@ module _ (table : Bytes) (c : Call) where
 
   module _ (whole : whole_slots table ≡ true) (well : well_table table ≡ true) (free : ℕ) (z : Free free t) where
     answer_says : (q : Request) → Reads c.request q → (a : Answer) → Answers free t q a → (s : ℕ) → s ≡ status a
-        → said t (slots_of (replied (edition_in c.request) (kind_number c.request) a table c.buffer).table) ≡ return_in t (record { request = q; status = s } ∷ [])
+        → said t (slots_of (replied (kind_number c.request) a table c.buffer).table) ≡ return_in t (record { request = q; status = s } ∷ [])
     answer_says q r (deny x) d s e = rw (e, (coded x).fails) (said_none t t refl)
     answer_says q r (done g u) d s e =
-        let f = fitting t (table_fits table whole well) (edition_in c.request) free q (read_fits c.request q r) g u d in
+        let f = fitting t (table_fits table whole well) free q (read_fits c.request q r) g u d in
         rw (e, slots_table u f.0) (does_say free t z q g u d)
 
-    read_says : (r : Read) → ReadAs c.request r → Says r (on_bytes (edition_in c.request) (kind_number c.request) (obey (edition_in c.request) r free t) table c)
-    read_says (asks q) d = answer_says q d (act (edition_in c.request) free t q) (acts (edition_in c.request) free t q) _
-        (status_over (edition_in c.request) (kind_number c.request) (act (edition_in c.request) free t q) c.buffer)
+    read_says : (r : Read) → ReadAs c.request r → Says r (on_bytes (kind_number c.request) (obey r free t) table c)
+    read_says (asks q) d = answer_says q d (act free t q) (acts free t q) _ (status_over (kind_number c.request) (act free t q) c.buffer)
     read_says (refused r) d = said_none t t refl
     read_says no_frame d = said_none t t refl
 

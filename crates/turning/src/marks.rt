@@ -2,7 +2,7 @@
 ghost use Rattle.std.specs.Prelude.{◌≡◌, map, true, length};
 ghost use Rattle.profile.specs.Bytes.{all, joined};
 ghost use Rattle.profile.specs.Sizes.{slot_size};
-ghost use Rattle.profile.specs.Table.{kept_of, long_of, slot_bytes, whole_slots};
+ghost use Rattle.profile.specs.Table.{kept_of, spare_of, slot_bytes, whole_slots};
 ghost use Rattle.profile.specs.Turning.{well_before, turn_slot};
 
 use profile::sizes::SLOT_BYTES;
@@ -10,13 +10,13 @@ use profile::slot::COUNT_AT;
 
 // A slot with a count that is not 0 gets the bit; place and hash count stay, and so does every other byte.
 fn mark_slot(s: &mut [u8])
-    requires { (length s.old ≡ slot_size) × (kept_of s.old ≡ 0) × (long_of s.old ≡ 0) }
+    requires { (length s.old ≡ slot_size) × (kept_of s.old ≡ 0) × (spare_of s.old ≡ 0) }
     ensures { s.new ≡ turn_slot s.old }
 {
     if words::word_at(s, COUNT_AT) != 0 {
         let place = bits::fields::slot_place(s[0]);
         let hashes = bits::fields::slot_hashes(s[0]);
-        s[0] = bits::fields::slot_head(place, hashes, 1, 0);
+        s[0] = bits::fields::slot_head(place, hashes, 1);
     }
 }
 

@@ -2,8 +2,8 @@
 //! about it.
 
 use crate::archive;
-use crate::{CallError, Error, Handle, InEdition, Listing, Reply, Report, Request, Status};
-use crate::{SalvageError, Tally, TallyError, TurnError, Verdict};
+use crate::{CallError, Error, Listing, Reply, Report, Request, Tally, Verdict};
+use crate::{SalvageError, TallyError, TurnError};
 use crate::{MOST_SLOTS, REPLY_ROOM, SLOT_BYTES};
 use std::fmt;
 
@@ -132,80 +132,17 @@ impl<T: AsRef<[u8]> + AsMut<[u8]>> Card<T> {
     /// A setup takes the lowest empty slot; [`call_from`](Card::call_from) has
     /// it look from another slot on.
     ///
-    /// A `&Request` is sent in [its edition](Request::edition), and answered in the
-    /// same; [`Request::in_edition`] asks for another.
-    ///
     /// A request that the card refuses to carry out is not an error: it is a
     /// [`Reply::Refused`].
     ///
     /// # Errors
     ///
     /// [`Error::Write`] where an installation has no hash, where there are too
-    /// many hashes, or some of another length, or where a payload has a wrong
-    /// length; [`Error::Call`] where the bytes are not a well-formed table, or have
-    /// another tally than the one [handed in](Card::with_tally). Nothing is changed
-    /// then.
-    pub fn call<'request>(
-        &mut self,
-        request: impl Into<InEdition<'request>>,
-        verdict: Verdict,
-    ) -> Result<Reply, Error> {
+    /// many, or where a payload has a wrong length; [`Error::Call`] where the
+    /// bytes are not a well-formed table, or have another tally than the one
+    /// [handed in](Card::with_tally). Nothing is changed then.
+    pub fn call(&mut self, request: &Request, verdict: Verdict) -> Result<Reply, Error> {
         self.call_from(0, request, verdict)
-    }
-
-    /// Lends a right under a new handle and gives all of it, in the edition that it
-    /// needs: makes a [retrieval](Request::RightsRetrieval) in the first edition
-    /// and, where that is refused with [`EditionNeeded`](Status::EditionNeeded),
-    /// once more in the second. The reply is that of the last one made, a
-    /// [`Reply::Right`] or a refusal for another reason.
-    ///
-    /// # Errors
-    ///
-    /// Those of [`call`](Card::call) that are an [`Error::Call`].
-    ///
-    /// ```
-    /// use cavernlull::{AssetHash, Card, Handle, Reply, Request, Right, Status, Verdict};
-    ///
-    /// let (course, borrower) = (Handle([1; 10]), Handle([2; 10]));
-    /// let right = Right {
-    ///     hashes: vec![AssetHash::Long([7; 32])],
-    ///     payload: b"course".to_vec(),
-    ///     ..Right::default()
-    /// };
-    /// let mut card = Card::blank(1);
-    /// for request in [
-    ///     Request::InstallationSetup { handle: course, room: 6 },
-    ///     Request::RightsInstallation { handle: course, right: right.clone() },
-    /// ] {
-    ///     card.call(&request, Verdict::Held)?;
-    /// }
-    ///
-    /// // Its hashes have 32 bytes. One question is in the wrong edition.
-    /// let retrieval = Request::RightsRetrieval { handle: course, new_handle: borrower };
-    /// let refused = card.call(&retrieval, Verdict::Held)?;
-    /// assert_eq!(refused.status(), Status::EditionNeeded);
-    ///
-    /// let reply = card.retrieve(course, borrower, Verdict::Held)?;
-    /// assert_eq!(reply, Reply::Right(right));
-    /// let again = card.retrieve(course, borrower, Verdict::Held)?;
-    /// assert_eq!(again.status(), Status::HandleNotFound);
-    /// # Ok::<(), cavernlull::Error>(())
-    /// ```
-    pub fn retrieve(
-        &mut self,
-        handle: Handle,
-        new_handle: Handle,
-        verdict: Verdict,
-    ) -> Result<Reply, Error> {
-        let retrieval = Request::RightsRetrieval { handle, new_handle };
-        let reply = self.call(&retrieval, verdict)?;
-        match reply.status() {
-            Status::EditionNeeded => {
-                let other = retrieval.edition().other();
-                self.call(retrieval.in_edition(other), verdict)
-            }
-            _ => Ok(reply),
-        }
     }
 
     /// Has the card answer a request as [`call`](Card::call) does, and gives
@@ -240,13 +177,13 @@ impl<T: AsRef<[u8]> + AsMut<[u8]>> Card<T> {
     /// assert_eq!(refused, Err(Error::Call(CallError::StartOutside)));
     /// # Ok::<(), Error>(())
     /// ```
-    pub fn call_from<'request>(
+    pub fn call_from(
         &mut self,
         start: usize,
-        request: impl Into<InEdition<'request>>,
+        request: &Request,
         verdict: Verdict,
     ) -> Result<Reply, Error> {
-        let mut frame = request.into().to_frame()?;
+        let mut frame = request.to_frame()?;
         verdict.put_into(&mut frame);
         let mut reply = [0; REPLY_ROOM];
         let answer = self.call_frame_from(start, &frame, &mut reply)?;
@@ -317,8 +254,7 @@ impl<T: AsRef<[u8]> + AsMut<[u8]>> Card<T> {
     /// # Errors
     ///
     /// Where the bytes are not 1 to 15 slots, or not a well-formed old table.
-    /// A table in which a count is kept, or a hash has 32 bytes, is not one: it is
-    /// not turned again.
+    /// A table in which a count is kept is not one: it is not turned again.
     /// Neither a byte nor the tally is changed then.
     ///
     /// ```

@@ -3,7 +3,7 @@
 //!
 //! A refusal leaves all lent memory as it was.
 
-use crate::{InEdition, Kind};
+use crate::{Kind, Request, MOST_HASHES};
 use std::error;
 use std::fmt;
 
@@ -50,15 +50,11 @@ pub enum CallError {
 ///     let right = Right { hashes, payload, ..Right::default() };
 ///     Request::RightsInstallation { handle: Handle([1; 10]), right }.to_frame()
 /// };
-/// let (short, long) = (AssetHash::Short([7; 20]), AssetHash::Long([7; 32]));
+/// let hash = AssetHash([7; 20]);
 /// assert_eq!(install(vec![], vec![]), Err(WriteError::NoHash));
-/// assert_eq!(install(vec![short, long], vec![]), Err(WriteError::MixedHashes));
-/// assert_eq!(install(vec![short; 9], vec![]), Err(WriteError::TooManyHashes));
-/// assert_eq!(install(vec![long; 6], vec![]), Err(WriteError::TooManyHashes));
-/// assert_eq!(install(vec![short], vec![]), Err(WriteError::PayloadLength));
-/// for hash in [short, long] {
-///     assert!(install(vec![hash], b"course".to_vec()).is_ok());
-/// }
+/// assert_eq!(install(vec![hash; 9], vec![]), Err(WriteError::TooManyHashes));
+/// assert_eq!(install(vec![hash], vec![]), Err(WriteError::PayloadLength));
+/// assert!(install(vec![hash], b"course".to_vec()).is_ok());
 /// ```
 #[derive(Clone, Copy, Debug, PartialEq, Eq, Hash)]
 pub enum WriteError {
@@ -67,14 +63,7 @@ pub enum WriteError {
     /// 202: the installation has no asset hash. A course is found by its
     /// hashes, so each is installed with one at least (PROFILE 5.2).
     NoHash,
-    /// 202: some hashes of the installation or the list query have 20 bytes, and
-    /// some 32. All must have one length (PROFILE 1.4).
-    MixedHashes,
-    /// 202: the request has hashes of the other edition than the one that it is
-    /// [asked for in](crate::Request::in_edition).
-    OtherEdition,
-    /// 202: the installation or the list query has more hashes than its edition
-    /// allows: 8 of 20 bytes, 5 of 32.
+    /// 202: the installation or the list query has more than 8 hashes.
     TooManyHashes,
     /// 202: the payload of the installation is not 1 to 4,096 bytes.
     PayloadLength,
@@ -82,11 +71,11 @@ pub enum WriteError {
 
 /// 203: the bytes are not the frame of a reply.
 ///
-/// The frame is not 4 bytes and its body length long, its version is neither 1 nor
-/// 2, its status is not 0 to 7, 9 or 10, it has a body though its status is not 0,
-/// its status is 0 and its body is not of the shape of its kind and version, the
-/// count's bit is set though it is no success of kind 3 or 9, or it has a count that
-/// is not 0 without that bit.
+/// The frame is not 4 bytes and its body length long, its version is not 1, its
+/// status is not 0 to 7 or 9, it has a body though its status is not 0, its
+/// status is 0 and its body is not of its kind's shape, the count's bit is set
+/// though it is no success of kind 3 or 9, or it has a count that is not 0 without
+/// that bit.
 #[derive(Clone, Copy, Debug, PartialEq, Eq, Hash)]
 pub struct ReadError;
 
@@ -97,8 +86,7 @@ pub enum TurnError {
     TableLength,
     /// 103: a slot is not well formed by the rules of old tables, or two
     /// records have the same handle. By these rules no count has a bit, so a
-    /// table that was turned is refused where a count is kept; and no hash has 32
-    /// bytes.
+    /// table that was turned is refused where a count is kept.
     TableNotWellFormed,
 }
 
@@ -205,36 +193,17 @@ impl WriteError {
     pub const fn number(self) -> u16 {
         match self {
             WriteError::BufferShort => 201,
-            WriteError::NoHash
-            | WriteError::MixedHashes
-            | WriteError::OtherEdition
-            | WriteError::TooManyHashes
-            | WriteError::PayloadLength => 202,
-        }
-    }
-
-    /// Whether all hashes of this request have the length of its edition. The
-    /// archive cannot tell: it is lent their bytes without their lengths, and five
-    /// long ones have as many as eight short ones.
-    pub(crate) fn of_lengths(asked: &InEdition<'_>) -> Result<(), WriteError> {
-        let own = asked.request().edition();
-        let mut hashes = asked.request().hashes().iter();
-        if hashes.any(|hash| hash.edition() != own) {
-            return Err(WriteError::MixedHashes);
-        }
-        match asked.request().hashes() {
-            [_, ..] if own != asked.edition() => Err(WriteError::OtherEdition),
-            _ => Ok(()),
+            WriteError::NoHash | WriteError::TooManyHashes | WriteError::PayloadLength => 202,
         }
     }
 
     /// What a number from the archive means, where it was asked to write this
-    /// request, whose hashes have the length of its edition.
-    pub(crate) fn of(number: u16, asked: &InEdition<'_>) -> Result<(), WriteError> {
+    /// request.
+    pub(crate) fn of(number: u16, request: &Request) -> Result<(), WriteError> {
         Err(match number {
             0 => return Ok(()),
             201 => WriteError::BufferShort,
-            202 => WriteError::of_fields(asked),
+            202 => WriteError::of_fields(request),
             _ => unknown(number),
         })
     }
@@ -242,10 +211,10 @@ impl WriteError {
     /// Why the archive does not take the fields of this request. That it does
     /// not is the archive's word; with the types of this crate there are only
     /// these three reasons.
-    fn of_fields(asked: &InEdition<'_>) -> WriteError {
-        match (asked.request().kind(), asked.request().hashes().len()) {
+    fn of_fields(request: &Request) -> WriteError {
+        match (request.kind(), request.hashes().len()) {
             (Kind::RightsInstallation, 0) => WriteError::NoHash,
-            (_, hashes) if hashes > asked.edition().most_hashes() => WriteError::TooManyHashes,
+            (_, hashes) if hashes > MOST_HASHES => WriteError::TooManyHashes,
             _ => WriteError::PayloadLength,
         }
     }
@@ -387,13 +356,7 @@ impl fmt::Display for WriteError {
             WriteError::NoHash => {
                 "the installation has no asset hash, by which its course would be found"
             }
-            WriteError::MixedHashes => "the asset hashes of the request have different lengths",
-            WriteError::OtherEdition => {
-                "the asset hashes of the request are not of the edition that it is asked for in"
-            }
-            WriteError::TooManyHashes => {
-                "the request has more than 8 asset hashes of 20 bytes, or more than 5 of 32"
-            }
+            WriteError::TooManyHashes => "the request has more than 8 asset hashes",
             WriteError::PayloadLength => "the payload of the installation is not 1 to 4,096 bytes",
         })
     }

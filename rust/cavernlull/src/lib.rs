@@ -15,7 +15,6 @@
 //! | [`Totals`] | what returns did to counts over many calls, for course planners |
 //! | [`Totalled`] | a reply, with what its call did to the count |
 //! | [`Request`] | a request of one of nine [kinds](Kind), and its frame |
-//! | [`Edition`], [`InEdition`] | which length of hashes goes with which version of a frame, and a request that is asked for in an edition |
 //! | [`Reply`] | what the card answered, read from the frame of a reply |
 //! | [`Listing`] | what is in the slots, as text |
 //! | [`Tally`] | how a table is filled: the slots of each place, and the payload bytes |
@@ -31,7 +30,7 @@
 //! # fn main() -> Result<(), cavernlull::Error> {
 //! let course = Handle([1; 10]);
 //! let lent = Handle([2; 10]);
-//! let asset = AssetHash::Short([7; 20]);
+//! let asset = AssetHash([7; 20]);
 //! let right = Right {
 //!     hashes: vec![asset],
 //!     payload: b"course".to_vec(),
@@ -89,7 +88,6 @@ struct Readme;
 
 mod archive;
 mod card;
-mod edition;
 mod error;
 mod kind;
 mod listing;
@@ -104,14 +102,13 @@ mod totals;
 mod verdict;
 
 pub use card::Card;
-pub use edition::Edition;
 pub use error::TotallingError;
 pub use error::{CallError, Error, ReadError, SalvageError, TallyError, TurnError, WriteError};
 pub use kind::Kind;
 pub use listing::Listing;
 pub use reply::Reply;
 pub use report::{Finding, Report};
-pub use request::{InEdition, Request};
+pub use request::Request;
 pub use right::{AssetHash, Handle, Key, Right};
 pub use rotation::Rotation;
 pub use status::Status;
@@ -140,19 +137,12 @@ pub const HANDLE_BYTES: usize = 10;
 /// The bytes of a key.
 pub const KEY_BYTES: usize = 16;
 
-/// The bytes of an asset hash of the first edition.
+/// The bytes of an asset hash.
 pub const HASH_BYTES: usize = 20;
 
-/// The bytes of an asset hash of the second edition.
-pub const LONG_HASH_BYTES: usize = 32;
-
-/// The most asset hashes of a right, or of a query, in the first edition. An
-/// installation has at least one.
+/// The most asset hashes of a right, or of a query. An installation has at least
+/// one.
 pub const MOST_HASHES: usize = 8;
-
-/// The most asset hashes of a right, or of a query, in the second edition. An
-/// installation has at least one.
-pub const MOST_LONG_HASHES: usize = 5;
 
 /// The bytes of the longest listing.
 pub const LISTING_ROOM: usize = 406;

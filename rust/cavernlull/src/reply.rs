@@ -1,9 +1,8 @@
 //! Replies, read from their frames.
 
 use crate::archive::{self, Numbers};
-use crate::right::hashes_in;
-use crate::{Edition, Handle, Key, Kind, ReadError, Right, Status};
-use crate::{HANDLE_BYTES, KEY_BYTES};
+use crate::{AssetHash, Handle, Key, Kind, ReadError, Right, Status};
+use crate::{HANDLE_BYTES, HASH_BYTES, KEY_BYTES};
 
 /// What a card answered: a success, with what it gives, or a refusal.
 #[derive(Clone, Debug, PartialEq, Eq)]
@@ -11,8 +10,7 @@ pub enum Reply {
     /// A request of this kind was carried out, and there is nothing to give:
     /// kinds 1, 2, 5, 6 and 7.
     Done(Kind),
-    /// Kind 3: the right is lent, and this is all of it. Its hashes, if it has any,
-    /// are those of the reply's edition.
+    /// Kind 3: the right is lent, and this is all of it.
     Right(Right),
     /// Kind 4: the right is lent, and this is its key.
     Key(Key),
@@ -40,7 +38,7 @@ pub enum Reply {
 }
 
 impl Reply {
-    /// Reads the frame of a reply, of either edition.
+    /// Reads the frame of a reply.
     ///
     /// # Errors
     ///
@@ -56,39 +54,17 @@ impl Reply {
     /// assert_eq!(Reply::read(&[0x25, 9, 0, 0]), Ok(refused));
     /// ```
     pub fn read(frame: &[u8]) -> Result<Reply, ReadError> {
-        let (reply, _) = Reply::read_with_edition(frame)?;
-        Ok(reply)
-    }
-
-    /// Reads the frame of a reply, and gives its edition with it: that of the
-    /// request which it answers.
-    ///
-    /// # Errors
-    ///
-    /// Where the bytes are not such a frame.
-    ///
-    /// ```
-    /// use cavernlull::{Edition, Kind, ReadError, Reply};
-    ///
-    /// let done = Reply::Done(Kind::RightsRemoval);
-    /// let read = Reply::read_with_edition(&[0x46, 0, 0, 0]);
-    /// assert_eq!(read, Ok((done, Edition::Second)));
-    /// assert_eq!(Reply::read_with_edition(&[0x66, 0, 0, 0]), Err(ReadError));
-    /// ```
-    pub fn read_with_edition(frame: &[u8]) -> Result<(Reply, Edition), ReadError> {
         let mut key = [0; KEY_BYTES];
         let mut numbers = Numbers::default();
         ReadError::of(archive::read_reply(frame, &mut key, &mut numbers))?;
-        let [kind, status, version] = [0, 1, 11].map(|index| numbers[index] as u8);
-        let edition = Edition::from_version(version).unwrap_or_else(|| unread());
-        let reply = match (Status::from_number(status), Kind::from_number(kind)) {
-            (Some(Status::Success), Some(kind)) => {
-                success(kind, edition, frame, Key(key), &numbers)
-            }
-            (Some(status), _) => Reply::Refused { kind, status },
-            (None, _) => unread(),
-        };
-        Ok((reply, edition))
+        let [kind, status] = [numbers[0] as u8, numbers[1] as u8];
+        Ok(
+            match (Status::from_number(status), Kind::from_number(kind)) {
+                (Some(Status::Success), Some(kind)) => success(kind, frame, Key(key), &numbers),
+                (Some(status), _) => Reply::Refused { kind, status },
+                (None, _) => unreachable!("the reader is proved to refuse every other number"),
+            },
+        )
     }
 
     /// The status of the reply.
@@ -113,15 +89,10 @@ impl Reply {
     }
 }
 
-/// The reader is proved to refuse every other status and every other version.
-fn unread() -> ! {
-    unreachable!("the reader refuses such a reply")
-}
-
 /// What the success of a kind gives. The numbers are those of
 /// `cavernlull_read_reply`, whose offsets and lengths are within the frame.
-fn success(kind: Kind, edition: Edition, frame: &[u8], key: Key, numbers: &Numbers) -> Reply {
-    let [_, _, count, hashes, hashes_at, payload_at, payload, more, handles, handles_at, kept, _] =
+fn success(kind: Kind, frame: &[u8], key: Key, numbers: &Numbers) -> Reply {
+    let [_, _, count, hashes, hashes_at, payload_at, payload, more, handles, handles_at, kept] =
         *numbers;
     let count = (kept != 0).then_some(count);
     let part = |at: u16, length: usize| &frame[usize::from(at)..usize::from(at) + length];
@@ -130,10 +101,10 @@ fn success(kind: Kind, edition: Edition, frame: &[u8], key: Key, numbers: &Numbe
         Kind::RightsRetrieval => Reply::Right(Right {
             key,
             count,
-            hashes: hashes_in(
-                part(hashes_at, edition.hash_bytes() * usize::from(hashes)),
-                edition,
-            ),
+            hashes: part(hashes_at, HASH_BYTES * usize::from(hashes))
+                .chunks_exact(HASH_BYTES)
+                .map(|hash| AssetHash(hash.try_into().expect("a chunk is a hash")))
+                .collect(),
             payload,
         }),
         Kind::RekQuery => Reply::Key(key),

@@ -1,7 +1,7 @@
 //! Requests, and the frames that they are written as.
 
 use crate::archive::{self, Fields};
-use crate::{AssetHash, Edition, Handle, Kind, Right, WriteError, REQUEST_ROOM};
+use crate::{AssetHash, Handle, Kind, Right, WriteError, REQUEST_ROOM};
 
 /// A request, with the fields of its kind.
 #[derive(Clone, Debug, PartialEq, Eq)]
@@ -17,18 +17,10 @@ pub enum Request {
     RightsInstallation {
         /// The handle of the reserved slot.
         handle: Handle,
-        /// The right. It has at least one hash, by which its course is found, and
-        /// all its hashes have one length.
+        /// The right. It has at least one hash, by which its course is found.
         right: Right,
     },
     /// Kind 3: lend the right under a new handle and give all of it.
-    ///
-    /// A right goes out in the [edition](Edition) of its hashes alone. In the
-    /// other it is refused with
-    /// [`EditionNeeded`](crate::Status::EditionNeeded), nothing changes, and the
-    /// same request is made once more [in that edition](Request::in_edition).
-    /// [`Card::retrieve`](crate::Card::retrieve) does both. A right without a hash
-    /// goes out in either.
     RightsRetrieval {
         /// The handle of the right.
         handle: Handle,
@@ -53,7 +45,7 @@ pub enum Request {
     /// ```
     /// # use cavernlull::{AssetHash, Card, Handle, Request, Right, Status, Verdict};
     /// # let (course, lent) = (Handle([1; 10]), Handle([2; 10]));
-    /// # let hashes = vec![AssetHash::Short([7; 20])];
+    /// # let hashes = vec![AssetHash([7; 20])];
     /// # let payload = b"course".to_vec();
     /// # let right = Right { count: Some(5), hashes, payload, ..Right::default() };
     /// # let mut card = Card::blank(1);
@@ -99,10 +91,8 @@ pub enum Request {
     HandleListQuery {
         /// The most bytes of handles to be listed; 0 for no limit.
         limit: u16,
-        /// Up to 8 hashes of 20 bytes, or up to 5 of 32: only rights that have one
-        /// of them are listed, and so none of the other
-        /// [edition](Edition). With no hashes, all rights are, of both editions,
-        /// also those that have no hash themselves.
+        /// Up to 8 hashes: only rights that have one of them are listed. With
+        /// no hashes, all rights are, also those that have no hash themselves.
         hashes: Vec<AssetHash>,
     },
     /// Kind 9: give the count and the payload of a right for use.
@@ -128,33 +118,6 @@ impl Request {
         }
     }
 
-    /// The edition that the request is sent in, unless it is
-    /// [asked for in another](Request::in_edition): that of its hashes, and the
-    /// first where it has none. Where hashes of both lengths are mixed, it is that
-    /// of the first of them, and the request is
-    /// [not written](WriteError::MixedHashes).
-    pub fn edition(&self) -> Edition {
-        let hash = self.hashes().first();
-        hash.map_or(Edition::First, AssetHash::edition)
-    }
-
-    /// The request as it is sent in this edition. A [`Card`](crate::Card) takes it
-    /// where it takes a request.
-    ///
-    /// ```
-    /// use cavernlull::{Edition, Handle, Request};
-    ///
-    /// let query = Request::RightsInformationQuery { handle: Handle([1; 10]) };
-    /// let [first, second] = Edition::ALL.map(|edition| query.in_edition(edition).to_frame());
-    /// assert_eq!(first?[..4], [0x29, 0x80, 0, 10]);
-    /// assert_eq!(second?[..4], [0x49, 0x80, 0, 10]);
-    /// # Ok::<(), cavernlull::WriteError>(())
-    /// ```
-    pub fn in_edition(&self, edition: Edition) -> InEdition<'_> {
-        let request = self;
-        InEdition { request, edition }
-    }
-
     /// The hashes that the request sends: those of an installation or of a list
     /// query. No other kind has any.
     pub(crate) fn hashes(&self) -> &[AssetHash] {
@@ -165,15 +128,13 @@ impl Request {
         }
     }
 
-    /// The frame of the request in [its edition](Request::edition), with the
-    /// verdict that the MAC held.
+    /// The frame of the request, with the verdict that the MAC held.
     ///
     /// # Errors
     ///
     /// [`WriteError::NoHash`] for an installation without a hash,
-    /// [`WriteError::MixedHashes`] for hashes of both lengths,
-    /// [`WriteError::TooManyHashes`] for more than 8 hashes of 20 bytes or 5 of 32,
-    /// and [`WriteError::PayloadLength`] for an installation whose payload is not 1
+    /// [`WriteError::TooManyHashes`] for more than 8 hashes, and
+    /// [`WriteError::PayloadLength`] for an installation whose payload is not 1
     /// to 4,096 bytes.
     ///
     /// ```
@@ -186,19 +147,23 @@ impl Request {
     /// # Ok::<(), cavernlull::WriteError>(())
     /// ```
     pub fn to_frame(&self) -> Result<Vec<u8>, WriteError> {
-        InEdition::from(self).to_frame()
+        let mut frame = vec![0; REQUEST_ROOM];
+        let length = self.write(&mut frame)?.len();
+        frame.truncate(length);
+        Ok(frame)
     }
 
-    /// Writes the frame of the request, in [its edition](Request::edition), at the
-    /// start of a buffer, and gives that part of it. The bytes after it keep what
-    /// they held.
+    /// Writes the frame of the request at the start of a buffer, and gives
+    /// that part of it. The bytes after it keep what they held.
     ///
     /// # Errors
     ///
     /// Those of [`to_frame`](Request::to_frame), and
     /// [`WriteError::BufferShort`]. The buffer is not changed then.
     pub fn write<'out>(&self, out: &'out mut [u8]) -> Result<&'out [u8], WriteError> {
-        InEdition::from(self).write(out)
+        let number = archive::write_request(self.kind().number(), &self.fields(), out);
+        WriteError::of(number, self)?;
+        Ok(archive::frame_in(out))
     }
 
     /// The fields that the kind has; those that it lacks are zero or empty.
@@ -238,67 +203,5 @@ impl Request {
 }
 
 fn one_after_another(hashes: &[AssetHash]) -> Vec<u8> {
-    hashes
-        .iter()
-        .flat_map(AssetHash::as_bytes)
-        .copied()
-        .collect()
-}
-
-/// A request, and the edition that it is sent in.
-///
-/// [`Request::in_edition`] gives it, for an edition that is asked for, and so does
-/// the conversion from a `&Request`, for [the request's own](Request::edition):
-/// what takes an `impl Into<InEdition>` takes either.
-#[derive(Clone, Copy, Debug, PartialEq, Eq)]
-pub struct InEdition<'request> {
-    request: &'request Request,
-    edition: Edition,
-}
-
-impl<'request> From<&'request Request> for InEdition<'request> {
-    fn from(request: &'request Request) -> InEdition<'request> {
-        request.in_edition(request.edition())
-    }
-}
-
-impl<'request> InEdition<'request> {
-    /// The request.
-    pub const fn request(&self) -> &'request Request {
-        self.request
-    }
-
-    /// The edition that it is sent in.
-    pub const fn edition(&self) -> Edition {
-        self.edition
-    }
-
-    /// The frame of the request in this edition, with the verdict that the MAC
-    /// held.
-    ///
-    /// # Errors
-    ///
-    /// Those of [`Request::to_frame`], and [`WriteError::OtherEdition`] where the
-    /// request has hashes of the other edition.
-    pub fn to_frame(&self) -> Result<Vec<u8>, WriteError> {
-        let mut frame = vec![0; REQUEST_ROOM];
-        let length = self.write(&mut frame)?.len();
-        frame.truncate(length);
-        Ok(frame)
-    }
-
-    /// Writes the frame of the request in this edition at the start of a buffer,
-    /// and gives that part of it. The bytes after it keep what they held.
-    ///
-    /// # Errors
-    ///
-    /// Those of [`to_frame`](InEdition::to_frame), and
-    /// [`WriteError::BufferShort`]. The buffer is not changed then.
-    pub fn write<'out>(&self, out: &'out mut [u8]) -> Result<&'out [u8], WriteError> {
-        WriteError::of_lengths(self)?;
-        let (version, kind) = (self.edition.version(), self.request.kind().number());
-        let number = archive::write_request(version, kind, &self.request.fields(), out);
-        WriteError::of(number, self)?;
-        Ok(archive::frame_in(out))
-    }
+    hashes.iter().flat_map(|hash| hash.0).collect()
 }

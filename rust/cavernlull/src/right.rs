@@ -1,69 +1,15 @@
 //! Rights, and the fixed strings of bytes that they have.
 
-use crate::{Edition, HANDLE_BYTES, HASH_BYTES, KEY_BYTES, LONG_HASH_BYTES};
+use crate::{HANDLE_BYTES, HASH_BYTES, KEY_BYTES};
 use std::fmt;
 
 /// The handle that a record is under. Any ten bytes may be one.
 #[derive(Clone, Copy, Default, PartialEq, Eq, PartialOrd, Ord, Hash)]
 pub struct Handle(pub [u8; HANDLE_BYTES]);
 
-/// The hash of an asset that a right is for: the 20 bytes of a SHA-1, or the 32
-/// of a SHA-256. Hashes of different lengths are never equal.
-///
-/// ```
-/// use cavernlull::{AssetHash, Edition};
-///
-/// let [short, long] = [AssetHash::from([7; 20]), AssetHash::from([7; 32])];
-/// assert_eq!([short, long], [AssetHash::Short([7; 20]), AssetHash::Long([7; 32])]);
-/// assert_eq!((short.edition(), short.as_bytes()), (Edition::First, &[7; 20][..]));
-/// assert_eq!((long.edition(), long.as_bytes()), (Edition::Second, &[7; 32][..]));
-/// ```
-#[derive(Clone, Copy, PartialEq, Eq, PartialOrd, Ord, Hash)]
-pub enum AssetHash {
-    /// A hash of 20 bytes, of the [first edition](Edition::First).
-    Short([u8; HASH_BYTES]),
-    /// A hash of 32 bytes, of the [second edition](Edition::Second).
-    Long([u8; LONG_HASH_BYTES]),
-}
-
-impl AssetHash {
-    /// The bytes: 20 or 32.
-    pub const fn as_bytes(&self) -> &[u8] {
-        match self {
-            AssetHash::Short(bytes) => bytes,
-            AssetHash::Long(bytes) => bytes,
-        }
-    }
-
-    /// The edition of frames and rights that have hashes of this length.
-    pub const fn edition(&self) -> Edition {
-        match self {
-            AssetHash::Short(_) => Edition::First,
-            AssetHash::Long(_) => Edition::Second,
-        }
-    }
-}
-
-impl From<[u8; HASH_BYTES]> for AssetHash {
-    fn from(bytes: [u8; HASH_BYTES]) -> AssetHash {
-        AssetHash::Short(bytes)
-    }
-}
-
-impl From<[u8; LONG_HASH_BYTES]> for AssetHash {
-    fn from(bytes: [u8; LONG_HASH_BYTES]) -> AssetHash {
-        AssetHash::Long(bytes)
-    }
-}
-
-/// The hashes of an edition that lie one after another in these bytes.
-pub(crate) fn hashes_in(bytes: &[u8], edition: Edition) -> Vec<AssetHash> {
-    let hash = |bytes: &[u8]| match edition {
-        Edition::First => AssetHash::Short(bytes.try_into().expect("20 bytes")),
-        Edition::Second => AssetHash::Long(bytes.try_into().expect("32 bytes")),
-    };
-    bytes.chunks_exact(edition.hash_bytes()).map(hash).collect()
-}
+/// The hash of an asset that a right is for: the 20 bytes of a SHA-1.
+#[derive(Clone, Copy, Default, PartialEq, Eq, PartialOrd, Ord, Hash)]
+pub struct AssetHash(pub [u8; HASH_BYTES]);
 
 /// The key (REK) of a right. [`Debug`](fmt::Debug) does not show it.
 #[derive(Clone, Copy, Default, PartialEq, Eq)]
@@ -72,8 +18,7 @@ pub struct Key(pub [u8; KEY_BYTES]);
 /// What a right holds, as it is installed and as it is retrieved.
 ///
 /// To be installed, a right needs at least one hash, since its course is found
-/// by its hashes. All have one length, which is that of its
-/// [edition](Right::edition). A right that a card gives may have none, if a version before
+/// by its hashes. A right that a card gives may have none, if a version before
 /// 6.0.0 installed it (PROFILE 2.9). It is lent, returned and removed like any
 /// other, but it is not installed again
 /// ([`WriteError::NoHash`](crate::WriteError::NoHash)).
@@ -85,7 +30,7 @@ pub struct Key(pub [u8; KEY_BYTES]);
 /// use cavernlull::{AssetHash, Card, Handle, Reply, Request, Right, Verdict};
 ///
 /// let (course, lent) = (Handle([1; 10]), Handle([2; 10]));
-/// let hashes = vec![AssetHash::Short([7; 20])];
+/// let hashes = vec![AssetHash([7; 20])];
 /// let payload = b"course".to_vec();
 /// let right = Right { count: Some(1), hashes, payload, ..Right::default() };
 /// let mut card = Card::blank(1);
@@ -108,21 +53,11 @@ pub struct Right {
     pub key: Key,
     /// The count: `None` where none is kept, `Some(0)` where it is used up.
     pub count: Option<u16>,
-    /// The hashes of the assets that the right is for, all of one length. To
-    /// install it there are 1 to 8 of 20 bytes, or 1 to 5 of 32; where a card
-    /// gives it there may be none.
+    /// The hashes of the assets that the right is for: 1 to 8 to install it, and
+    /// 0 to 8 where a card gives it.
     pub hashes: Vec<AssetHash>,
     /// The payload: 1 to 4,096 bytes, which neither card nor library interprets.
     pub payload: Vec<u8>,
-}
-
-impl Right {
-    /// The edition of the right: that of its hashes, or none where it has no
-    /// hash. Where hashes of both lengths are mixed, which no request is written
-    /// with, it is that of the first.
-    pub fn edition(&self) -> Option<Edition> {
-        self.hashes.first().map(AssetHash::edition)
-    }
 }
 
 /// In hex.
@@ -141,7 +76,7 @@ impl fmt::Debug for Handle {
 /// In hex.
 impl fmt::Display for AssetHash {
     fn fmt(&self, f: &mut fmt::Formatter<'_>) -> fmt::Result {
-        write_hex(self.as_bytes(), f)
+        write_hex(&self.0, f)
     }
 }
 
@@ -171,29 +106,9 @@ mod tests {
         let handle = Handle([0, 1, 2, 0xA, 0xFF, 0x10, 6, 7, 8, 9]);
         assert_eq!(handle.to_string(), "0001020aff1006070809");
         assert_eq!(format!("{handle:?}"), "Handle(0001020aff1006070809)");
-        for (hash, length) in [([0xB7; 20].into(), 20), (AssetHash::from([0xB7; 32]), 32)] {
-            assert_eq!(hash.to_string(), "b7".repeat(length));
-            assert_eq!(format!("{hash:?}"), format!("AssetHash({hash})"));
-        }
-    }
-
-    #[test]
-    fn hashes_lie_one_after_another() {
-        let bytes: Vec<u8> = (0..160).collect();
-        for edition in Edition::ALL {
-            let hashes = hashes_in(&bytes, edition);
-            assert_eq!(hashes.len(), edition.most_hashes());
-            assert!(hashes.iter().all(|hash| hash.edition() == edition));
-            assert_eq!(
-                hashes
-                    .iter()
-                    .map(AssetHash::as_bytes)
-                    .collect::<Vec<_>>()
-                    .concat(),
-                bytes
-            );
-            assert_eq!(hashes_in(&[], edition), []);
-        }
+        let hash = AssetHash([0xB7; 20]);
+        assert_eq!(hash.to_string(), "b7".repeat(20));
+        assert_eq!(format!("{hash:?}"), format!("AssetHash({hash})"));
     }
 
     #[test]

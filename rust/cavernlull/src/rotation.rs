@@ -1,12 +1,11 @@
 //! Setups that take the slots of a card in rotation.
 
-use crate::{CallError, Card, Error, Handle, InEdition, Reply, Request, Verdict};
+use crate::{CallError, Card, Error, Handle, Reply, Request, Verdict};
 use crate::{Totalled, TotallingError, Totals};
 use crate::{HANDLE_BYTES, SLOT_BYTES};
 
-/// The replies to a setup that was carried out, in either edition, and to nothing
-/// else.
-const SETUP_DONE: [[u8; 4]; 2] = [[0x21, 0, 0, 0], [0x41, 0, 0, 0]];
+/// The reply to a setup that was carried out, and to nothing else.
+const SETUP_DONE: [u8; 4] = [0x21, 0, 0, 0];
 
 /// Where the handle of a setup is in its frame.
 const HANDLE_AT: usize = 4;
@@ -103,15 +102,14 @@ impl Rotation {
     /// # Errors
     ///
     /// Those of [`Card::call`]: the start is never outside the card.
-    pub fn call<'request, T: AsRef<[u8]> + AsMut<[u8]>>(
+    pub fn call<T: AsRef<[u8]> + AsMut<[u8]>>(
         &mut self,
         card: &mut Card<T>,
-        request: impl Into<InEdition<'request>>,
+        request: &Request,
         verdict: Verdict,
     ) -> Result<Reply, Error> {
-        let asked = request.into();
-        let reply = card.call_from(self.start_on(card.table()), asked, verdict)?;
-        self.follow(card.table(), asked.request(), &reply);
+        let reply = card.call_from(self.start_on(card.table()), request, verdict)?;
+        self.follow(card.table(), request, &reply);
         Ok(reply)
     }
 
@@ -135,16 +133,16 @@ impl Rotation {
     /// assert_eq!((rotation.start(), totals), (2, Totals::new()));
     /// # Ok::<(), cavernlull::TotallingError>(())
     /// ```
-    pub fn call_totalling<'request, T: AsRef<[u8]> + AsMut<[u8]>>(
+    pub fn call_totalling<T: AsRef<[u8]> + AsMut<[u8]>>(
         &mut self,
         totals: &mut Totals,
         card: &mut Card<T>,
-        request: impl Into<InEdition<'request>>,
+        request: &Request,
         verdict: Verdict,
     ) -> Result<Totalled, TotallingError> {
-        let (start, asked) = (self.start_on(card.table()), request.into());
-        let totalled = totals.call_from(card, start, asked, verdict)?;
-        self.follow(card.table(), asked.request(), &totalled.reply);
+        let start = self.start_on(card.table());
+        let totalled = totals.call_from(card, start, request, verdict)?;
+        self.follow(card.table(), request, &totalled.reply);
         Ok(totalled)
     }
 
@@ -216,7 +214,7 @@ impl Rotation {
 
     /// The same for a frame and the frame of its reply.
     fn follow_frame(&mut self, table: &[u8], frame: &[u8], reply: &[u8]) {
-        if SETUP_DONE.iter().any(|done| reply == done) {
+        if reply == SETUP_DONE {
             let handle = frame[HANDLE_AT..][..HANDLE_BYTES].try_into();
             self.pass(table, &Handle(handle.expect("a setup has a handle")));
         }

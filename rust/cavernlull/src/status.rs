@@ -28,15 +28,11 @@ pub enum Status {
     /// only one of the two is kept. The right stays lent, and can be
     /// [returned with another count](crate::Request::RightsEnablement).
     CountRaised = 9,
-    /// The right has hashes of the other [edition](crate::Edition), so it does
-    /// not go out whole in this one. It is still for use, under its handle, and
-    /// [goes out](crate::Card::retrieve) in the other.
-    EditionNeeded = 10,
 }
 
 impl Status {
     /// All statuses, in the order of their numbers.
-    pub const ALL: [Status; 10] = [
+    pub const ALL: [Status; 9] = [
         Status::Success,
         Status::FieldIntegrityVerificationFailed,
         Status::ParameterFailed,
@@ -46,15 +42,14 @@ impl Status {
         Status::UnexpectedRequest,
         Status::NotEnoughSpace,
         Status::CountRaised,
-        Status::EditionNeeded,
     ];
 
-    /// The status's number, 0 to 7, 9 or 10.
+    /// The status's number, 0 to 7 or 9.
     pub const fn number(self) -> u8 {
         self as u8
     }
 
-    /// The status of this number, if it is 0 to 7, 9 or 10. No other number is a
+    /// The status of this number, if it is 0 to 7 or 9. No other number is a
     /// status, and 8 is none either: a reply with one is refused
     /// ([`ReadError`](crate::ReadError)).
     ///
@@ -64,7 +59,6 @@ impl Status {
     /// assert_eq!(Status::from_number(7), Some(Status::NotEnoughSpace));
     /// assert_eq!(Status::from_number(8), None);
     /// assert_eq!(Status::from_number(9), Some(Status::CountRaised));
-    /// assert_eq!(Status::from_number(10), Some(Status::EditionNeeded));
     /// assert_eq!(Reply::read(&[0x25, 8, 0, 0]), Err(ReadError));
     /// ```
     pub fn from_number(number: u8) -> Option<Status> {
@@ -86,7 +80,6 @@ impl fmt::Display for Status {
             Status::UnexpectedRequest => "Unexpected Request",
             Status::NotEnoughSpace => "Not Enough Space",
             Status::CountRaised => "Count Raised",
-            Status::EditionNeeded => "Edition Needed",
         })
     }
 }

@@ -1,7 +1,7 @@
 //! What returns did to counts, over many calls.
 
 use crate::archive::{self, Sums};
-use crate::{Card, InEdition, Reply, TotallingError, Verdict};
+use crate::{Card, Reply, Request, TotallingError, Verdict};
 use crate::{MOST_RETURNS, REPLY_ROOM};
 use std::fmt;
 
@@ -21,7 +21,7 @@ use std::fmt;
 /// let (course, lent) = (Handle([1; 10]), Handle([2; 10]));
 /// let right = Right {
 ///     count: Some(10),
-///     hashes: vec![AssetHash::Short([7; 20])],
+///     hashes: vec![AssetHash([7; 20])],
 ///     payload: b"course".to_vec(),
 ///     ..Right::default()
 /// };
@@ -160,10 +160,10 @@ impl Totals {
     /// [`TotallingError::TotalOutside`] where the numbers do not
     /// [hold](Totals::holds), and else those of [`Card::call`]. Neither card nor
     /// totals are changed then.
-    pub fn call<'request, T: AsRef<[u8]> + AsMut<[u8]>>(
+    pub fn call<T: AsRef<[u8]> + AsMut<[u8]>>(
         &mut self,
         card: &mut Card<T>,
-        request: impl Into<InEdition<'request>>,
+        request: &Request,
         verdict: Verdict,
     ) -> Result<Totalled, TotallingError> {
         self.call_from(card, 0, request, verdict)
@@ -179,14 +179,14 @@ impl Totals {
     /// Those of [`call`](Totals::call), and
     /// [`CallError::StartOutside`](crate::CallError::StartOutside) where the card
     /// has no such slot.
-    pub fn call_from<'request, T: AsRef<[u8]> + AsMut<[u8]>>(
+    pub fn call_from<T: AsRef<[u8]> + AsMut<[u8]>>(
         &mut self,
         card: &mut Card<T>,
         start: usize,
-        request: impl Into<InEdition<'request>>,
+        request: &Request,
         verdict: Verdict,
     ) -> Result<Totalled, TotallingError> {
-        let mut frame = request.into().to_frame()?;
+        let mut frame = request.to_frame()?;
         verdict.put_into(&mut frame);
         let mut buffer = [0; REPLY_ROOM];
         let totalled = self.call_frame_from(card, start, &frame, &mut buffer)?;

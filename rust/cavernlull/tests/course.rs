@@ -18,7 +18,7 @@ fn right() -> Right {
     Right {
         key: Key([0xC5; 16]),
         count: Some(0x0102),
-        hashes: vec![AssetHash::Short([0xA1; 20]), AssetHash::Short([0xA2; 20])],
+        hashes: vec![AssetHash([0xA1; 20]), AssetHash([0xA2; 20])],
         payload: b"welding, level 2".to_vec(),
     }
 }
@@ -32,7 +32,7 @@ fn slot(place: u8, handle: Handle, right: &Right, length: usize) -> Vec<u8> {
     slot[27..29].copy_from_slice(&right.count.unwrap_or(0).to_be_bytes());
     slot[29..31].copy_from_slice(&(length as u16).to_be_bytes());
     for (hash, bytes) in right.hashes.iter().zip(slot[31..].chunks_mut(HASH_BYTES)) {
-        bytes.copy_from_slice(hash.as_bytes());
+        bytes.copy_from_slice(&hash.0);
     }
     slot[192..192 + right.payload.len()].copy_from_slice(&right.payload);
     slot
@@ -297,7 +297,7 @@ fn lists_are_cut_and_chosen() {
     for n in 1..=3 {
         let handle = Handle([n; 10]);
         let mut right = right();
-        right.hashes.push(AssetHash::Short([n; 20]));
+        right.hashes.push(AssetHash([n; 20]));
         for request in [
             setup(handle, 300),
             Request::RightsInstallation { handle, right },
@@ -309,7 +309,7 @@ fn lists_are_cut_and_chosen() {
         }
     }
     let mut list = |limit, hashes: &[u8]| {
-        let hashes = hashes.iter().map(|&n| AssetHash::Short([n; 20])).collect();
+        let hashes = hashes.iter().map(|&n| AssetHash([n; 20])).collect();
         let query = Request::HandleListQuery { limit, hashes };
         match card.call(&query, Verdict::Failed).unwrap() {
             Reply::Handles { handles, more } => (handles.iter().map(|h| h.0[0]).collect(), more),

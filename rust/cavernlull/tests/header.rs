@@ -36,9 +36,7 @@ fn sizes_are_those_of_the_header() {
         ("HANDLE_BYTES", HANDLE_BYTES),
         ("KEY_BYTES", KEY_BYTES),
         ("HASH_BYTES", HASH_BYTES),
-        ("LONG_HASH_BYTES", LONG_HASH_BYTES),
         ("MOST_HASHES", MOST_HASHES),
-        ("MOST_LONG_HASHES", MOST_LONG_HASHES),
         ("LISTING_ROOM", LISTING_ROOM),
         ("MOST_CHANGE", MOST_CHANGE as usize),
         ("MOST_RETURNS", MOST_RETURNS.into()),
@@ -61,26 +59,8 @@ fn kinds_and_statuses_are_those_of_the_header() {
         assert_eq!(Status::from_number(status.number()), Some(status));
     }
     assert_eq!(Kind::from_number(0).or(Kind::from_number(10)), None);
-    assert_eq!(Status::from_number(8).or(Status::from_number(11)), None);
+    assert_eq!(Status::from_number(8).or(Status::from_number(10)), None);
     assert!(!constants.contains_key("TWO_RECORDS"));
-}
-
-/// The versions of frames are those of the header, and hashes of both editions
-/// have the same room.
-#[test]
-fn editions_are_those_of_the_header() {
-    let constants = constants();
-    for edition in Edition::ALL {
-        let number = constants.get(in_c(edition).as_str());
-        assert_eq!(number, Some(&edition.version().into()), "{edition}");
-        assert_eq!(Edition::from_version(edition.version()), Some(edition));
-        assert_eq!(edition.other().other(), edition);
-        assert_ne!(edition.other(), edition);
-        let most = edition.hash_bytes() * edition.most_hashes();
-        assert_eq!(constants.get("MOST_HASH_BYTES"), Some(&most), "{edition}");
-    }
-    assert_eq!(Edition::from_version(0).or(Edition::from_version(3)), None);
-    assert_eq!(Edition::default(), Edition::First);
 }
 
 #[test]
@@ -99,8 +79,6 @@ fn errors_are_those_of_the_header() {
         ("TALLY_DIFFERS", CallError::TallyDiffers.number()),
         ("WRITER_BUFFER_SHORT", WriteError::BufferShort.number()),
         ("WRITER_FIELDS", WriteError::NoHash.number()),
-        ("WRITER_FIELDS", WriteError::MixedHashes.number()),
-        ("WRITER_FIELDS", WriteError::OtherEdition.number()),
         ("WRITER_FIELDS", WriteError::TooManyHashes.number()),
         ("WRITER_FIELDS", WriteError::PayloadLength.number()),
         ("NO_REPLY", ReadError.number()),
@@ -171,12 +149,12 @@ fn a_tally_is_that_of_the_header() {
     assert_eq!(std::mem::size_of::<Tally>(), 10);
 }
 
-/// A right with this count and this hash, installed in a slot.
-fn installed(count: Option<u16>, hash: AssetHash) -> (Vec<u8>, Card) {
+/// A right with this count, installed in a slot.
+fn installed(count: Option<u16>) -> (Vec<u8>, Card) {
     let handle = Handle([1; 10]);
     let right = Right {
         count,
-        hashes: vec![hash],
+        hashes: vec![AssetHash([9; 20])],
         payload: vec![7],
         ..Right::default()
     };
@@ -197,8 +175,7 @@ fn installed(count: Option<u16>, hash: AssetHash) -> (Vec<u8>, Card) {
 #[test]
 fn the_bits_of_a_kept_count_are_those_of_the_header() {
     let constants = constants();
-    let with = |count| installed(count, AssetHash::Short([9; 20]));
-    let ((kept, mut kept_card), (none, mut none_card)) = (with(Some(0)), with(None));
+    let ((kept, mut kept_card), (none, mut none_card)) = (installed(Some(0)), installed(None));
     let mut query = [1; 14];
     query[..4].copy_from_slice(&[0x29, 0x80, 0, 10]);
     let mut replies = [[0; REPLY_ROOM]; 2];
@@ -215,25 +192,4 @@ fn the_bits_of_a_kept_count_are_those_of_the_header() {
     none_card.call_frame(&query, without).unwrap();
     without[1] |= constants["KEPT_IN_REPLY"] as u8;
     assert!(with == without && with[1] != 0);
-}
-
-/// The bit that the header names is set in a slot with long hashes, and not in one
-/// with short ones, which differs from it in nothing else but the longer hash.
-#[test]
-fn the_bit_of_long_hashes_is_that_of_the_header() {
-    let (_, short) = installed(None, AssetHash::Short([9; 20]));
-    let (_, long) = installed(None, AssetHash::Long([9; 32]));
-    let mut expected = short.into_table();
-    expected[0] |= constants()["LONG_IN_SLOT"] as u8;
-    expected[31 + HASH_BYTES..31 + LONG_HASH_BYTES].fill(9);
-    assert!(long.table() == expected && expected[0] == 0x85);
-}
-
-/// The numbers of a reply, by index, are as many as the header says, and the last
-/// is the version.
-#[test]
-fn the_numbers_of_a_reply_are_those_of_the_header() {
-    let constants = constants();
-    assert_eq!(constants.get("REPLY_NUMBERS"), Some(&12));
-    assert_eq!(constants.get("REPLY_VERSION"), Some(&11));
 }

@@ -1,7 +1,7 @@
 //! What the agent, the writer and the reader refuse, and that each refusal
 //! leaves all lent memory as it was.
 
-use cavernlull::{AssetHash, CallError, Card, Edition, Error, Handle, Listing, ReadError, Reply};
+use cavernlull::{AssetHash, CallError, Card, Error, Handle, Listing, ReadError, Reply};
 use cavernlull::{Request, Right, Status, TallyError, TurnError, Verdict, WriteError};
 use cavernlull::{MOST_SLOTS, REPLY_ROOM, REQUEST_ROOM, SLOT_BYTES};
 
@@ -14,18 +14,11 @@ fn setup() -> Request {
     }
 }
 
-const SHORT: AssetHash = AssetHash::Short([9; 20]);
-const LONG: AssetHash = AssetHash::Long([9; 32]);
-
 fn installation(hashes: usize, payload: usize) -> Request {
-    installation_of(vec![SHORT; hashes], payload)
-}
-
-fn installation_of(hashes: Vec<AssetHash>, payload: usize) -> Request {
     Request::RightsInstallation {
         handle: HANDLE,
         right: Right {
-            hashes,
+            hashes: vec![AssetHash([9; 20]); hashes],
             payload: vec![8; payload],
             ..Right::default()
         },
@@ -34,11 +27,10 @@ fn installation_of(hashes: Vec<AssetHash>, payload: usize) -> Request {
 
 /// A list query by so many hashes.
 fn query(hashes: usize) -> Request {
-    query_by(vec![SHORT; hashes])
-}
-
-fn query_by(hashes: Vec<AssetHash>) -> Request {
-    Request::HandleListQuery { limit: 0, hashes }
+    Request::HandleListQuery {
+        limit: 0,
+        hashes: vec![AssetHash([9; 20]); hashes],
+    }
 }
 
 /// Asserts that a call from slot 0 is refused with this error, and that table
@@ -241,6 +233,8 @@ fn a_table_has_no_count_without_its_bit() {
         refused(&table);
         table[0] |= 2;
         assert_eq!(answer(&mut Card::over(&mut table), &frame), [0x21, 5, 0, 0]);
+        table[0] |= 1;
+        refused(&table);
         (table[0], table[at]) = (0x84, 0);
     }
     let mut reserved = Card::blank(1);
@@ -283,8 +277,8 @@ fn assert_not_written(request: &Request, error: WriteError) {
     }
 }
 
-/// Where there is more than one reason, a missing hash comes first, then hashes of
-/// another length, then too many of them, and the payload last.
+/// Where there is more than one reason, a missing hash comes first, then too many
+/// of them, and the payload last.
 #[test]
 fn the_writer_says_why_it_refuses_fields() {
     for payload in [0, 1, 4096, 4097] {
@@ -301,74 +295,6 @@ fn the_writer_says_why_it_refuses_fields() {
     for hashes in [9, 15, 16, 256] {
         assert_not_written(&query(hashes), WriteError::TooManyHashes);
     }
-}
-
-#[test]
-fn the_writer_takes_no_more_than_5_long_hashes() {
-    for hashes in [6, 7, 8, 9, 15, 16, 256].map(|hashes| vec![LONG; hashes]) {
-        for payload in [0, 1, 4097] {
-            let installation = installation_of(hashes.clone(), payload);
-            assert_not_written(&installation, WriteError::TooManyHashes);
-        }
-        assert_not_written(&query_by(hashes), WriteError::TooManyHashes);
-    }
-    for hashes in 1..=5 {
-        let installation = installation_of(vec![LONG; hashes], 0);
-        assert_not_written(&installation, WriteError::PayloadLength);
-    }
-}
-
-/// Hashes of both lengths are not written, in whatever order and however many.
-#[test]
-fn the_writer_takes_no_hashes_of_both_lengths() {
-    for (short, long) in [(1, 1), (2, 1), (1, 4), (8, 5), (100, 100)] {
-        let mut hashes = [vec![SHORT; short], vec![LONG; long]].concat();
-        for _ in 0..2 {
-            hashes.reverse();
-            for payload in [0, 1, 4097] {
-                let installation = installation_of(hashes.clone(), payload);
-                assert_not_written(&installation, WriteError::MixedHashes);
-            }
-            assert_not_written(&query_by(hashes.clone()), WriteError::MixedHashes);
-        }
-    }
-}
-
-/// Nor are hashes in the edition of the other length. Five long ones have as many
-/// bytes as eight short ones, and are not taken for them.
-#[test]
-fn the_writer_takes_no_hashes_of_the_other_edition() {
-    for (hash, most) in [(SHORT, 8), (LONG, 5)] {
-        for hashes in [1, most, most + 1].map(|hashes| vec![hash; hashes]) {
-            for request in [installation_of(hashes.clone(), 5), query_by(hashes)] {
-                let mut buffer = [0xA5; REQUEST_ROOM];
-                let other = request.in_edition(hash.edition().other());
-                assert_eq!(other.to_frame(), Err(WriteError::OtherEdition));
-                assert_eq!(other.write(&mut buffer), Err(WriteError::OtherEdition));
-                assert_eq!(buffer, [0xA5; REQUEST_ROOM]);
-                let own = request.in_edition(hash.edition());
-                assert_eq!(own.to_frame(), request.to_frame());
-            }
-        }
-    }
-}
-
-#[test]
-fn the_writer_takes_1_to_5_long_hashes_and_in_a_query_none() {
-    for hashes in 1..=5 {
-        for payload in [1, 4096] {
-            let frame = installation_of(vec![LONG; hashes], payload)
-                .to_frame()
-                .unwrap();
-            assert_eq!(frame.len(), 4 + 29 + 32 * hashes + payload);
-            assert_eq!((frame[0], frame[32]), (0x42, 16 * hashes as u8));
-        }
-        let frame = query_by(vec![LONG; hashes]).to_frame().unwrap();
-        assert_eq!(frame.len(), 4 + 3 + 32 * hashes);
-        assert_eq!((frame[0], frame[6]), (0x48, hashes as u8));
-    }
-    let none = query(0).in_edition(Edition::Second).to_frame();
-    assert_eq!(none, Ok(vec![0x48, 0x80, 0, 3, 0, 0, 0]));
 }
 
 #[test]
@@ -405,15 +331,11 @@ fn the_reader_refuses_what_is_no_reply() {
         &[][..],
         &[0x24, 5, 0],
         &[0x24, 5, 0, 1],
-        &[0x04, 5, 0, 0],
-        &[0x64, 5, 0, 0],
-        &[0xE4, 5, 0, 0],
+        &[0x44, 5, 0, 0],
         &[0x24, 8, 0, 0],
-        &[0x4A, 8, 0, 0],
-        &[0x23, 11, 0, 0],
+        &[0x2A, 8, 0, 0],
+        &[0x24, 10, 0, 0],
         &[0x25, 9, 0, 1, 0],
-        &[0x43, 10, 0, 1, 0],
-        &[0x43, 0x8A, 0, 0],
         &[0x24, 0, 0, 0],
         &[0x2A, 0, 0, 0],
         &[0x21, 0, 0, 1, 0],
@@ -426,24 +348,18 @@ fn the_reader_refuses_what_is_no_reply() {
 }
 
 /// A refusal has an empty body and one of the statuses that there are, whatever
-/// its kind and in either edition; 8 is none of them (PROFILE 6.3).
+/// its kind; 8 is none of them (PROFILE 6.3).
 #[test]
 fn the_reader_takes_every_status_for_every_kind() {
-    let read = |version: u8, kind: u8, number: u8| {
-        Reply::read_with_edition(&[version << 5 | kind, number, 0, 0])
-    };
     for kind in 0..32 {
         for number in 1..128 {
-            let status = Status::from_number(number);
-            assert_eq!(status.is_some(), number <= 7 || [9, 10].contains(&number));
-            for edition in Edition::ALL {
-                let refused = status.map(|status| (Reply::Refused { kind, status }, edition));
-                let given = read(edition.version(), kind, number);
-                assert_eq!(given, refused.ok_or(ReadError), "{edition}, {kind}");
-            }
-            for version in [0, 3, 4, 5, 6, 7] {
-                assert_eq!(read(version, kind, number), Err(ReadError), "{version}");
-            }
+            let expected = match Status::from_number(number) {
+                Some(status) => Ok(Reply::Refused { kind, status }),
+                None => Err(ReadError),
+            };
+            assert_eq!(expected.is_ok(), number <= 7 || number == 9);
+            let frame = [0x20 | kind, number, 0, 0];
+            assert_eq!(Reply::read(&frame), expected, "{frame:02x?}");
         }
     }
 }
@@ -486,8 +402,6 @@ fn errors_are_errors_with_their_numbers() {
     let writes = [
         WriteError::BufferShort,
         WriteError::NoHash,
-        WriteError::MixedHashes,
-        WriteError::OtherEdition,
         WriteError::TooManyHashes,
         WriteError::PayloadLength,
     ];
@@ -498,8 +412,7 @@ fn errors_are_errors_with_their_numbers() {
     let numbers: Vec<u16> = errors.iter().map(|error| error.number()).collect();
     let (calls, others) = numbers.split_at(6);
     assert_eq!(calls, [101, 102, 103, 104, 105, 106]);
-    assert_eq!(others[..6], [201, 202, 202, 202, 202, 202]);
-    assert_eq!(others[6..], [203, 102, 103, 102, 103]);
+    assert_eq!(others, [201, 202, 202, 202, 203, 102, 103, 102, 103]);
     for error in errors {
         let error: Box<dyn std::error::Error + Send + Sync> = error.into();
         assert!(error.to_string().starts_with("the "), "{error}");

@@ -1,6 +1,6 @@
 //! What moves a rotation, and what does not.
 
-use cavernlull::{AssetHash, CallError, Card, Edition, Error, Handle, Request, Right, Rotation};
+use cavernlull::{AssetHash, CallError, Card, Error, Handle, Request, Right, Rotation};
 use cavernlull::{Status, Verdict};
 use cavernlull::{MOST_SLOTS, REPLY_ROOM, SLOT_BYTES};
 
@@ -100,7 +100,7 @@ fn a_refused_setup_does_not_move_it() {
 fn no_other_kind_moves_it() {
     let (mut card, mut rotation) = blank(4);
     let right = Right {
-        hashes: vec![AssetHash::Short([0xA1; 20])],
+        hashes: vec![AssetHash([0xA1; 20])],
         payload: vec![7; 9],
         ..Right::default()
     };
@@ -186,8 +186,7 @@ fn a_refused_call_does_not_move_it() {
     }
 }
 
-/// Frames move it as requests do, in either edition, also over a table that is
-/// lent.
+/// Frames move it as requests do, also over a table that is lent.
 #[test]
 fn frames_move_it_as_requests_do() {
     let (mut card, mut by_requests) = blank(3);
@@ -197,11 +196,11 @@ fn frames_move_it_as_requests_do() {
         let given_up = Request::HandleRemoval {
             handle: handle(n - 1),
         };
-        let edition = Edition::ALL[usize::from(n) / 2 % 2];
         for request in [setup(n), setup(n), given_up] {
-            let asked = request.in_edition(edition);
-            by_requests.call(&mut card, asked, Verdict::Held).unwrap();
-            let frame = asked.to_frame().unwrap();
+            by_requests
+                .call(&mut card, &request, Verdict::Held)
+                .unwrap();
+            let frame = request.to_frame().unwrap();
             let mut lent = Card::over(&mut memory);
             let reply = &mut [0; REPLY_ROOM];
             by_frames.call_frame(&mut lent, &frame, reply).unwrap();

@@ -180,10 +180,8 @@ fn no_key_is_left_in_a_cleared_slot() {
     for (at, byte) in [
         (0, 0x04),
         (0, 0x46),
-        (0, 0x47),
-        (0, 0x83),
+        (0, 0x87),
         (0, 0x84),
-        (0, 0x9B),
         (0, 0xA6),
         (29, 0x10),
         (30, 0),
@@ -263,7 +261,7 @@ fn calls_go_on_after_a_salvage() {
     let setup = Request::InstallationSetup { handle, room };
     assert_answers(&mut card, setup, Status::Success);
     let right = Right {
-        hashes: vec![AssetHash::Short([0xA1; HASH_BYTES])],
+        hashes: vec![AssetHash([0xA1; HASH_BYTES])],
         payload: b"anew".to_vec(),
         ..Right::default()
     };

@@ -30,7 +30,7 @@ fn slot(place: u8, handle: Handle) -> Vec<u8> {
 /// A right with a hash and this payload.
 fn right(payload: Vec<u8>) -> Right {
     Right {
-        hashes: vec![AssetHash::Short([0xA1; 20])],
+        hashes: vec![AssetHash([0xA1; 20])],
         payload,
         ..Right::default()
     }

@@ -30,7 +30,7 @@ fn setup(handle: Handle, room: u16) -> Request {
 fn install(handle: Handle, payload: usize) -> Request {
     let right = Right {
         count: Some(9),
-        hashes: vec![AssetHash::Short([0xA1; 20])],
+        hashes: vec![AssetHash([0xA1; 20])],
         payload: vec![0xEE; payload],
         ..Right::default()
     };
@@ -376,14 +376,9 @@ fn a_table_that_is_not_well_formed_has_no_tally() {
     let error = TallyError::TableNotWellFormed;
     let refused = CallError::TableNotWellFormed;
     let table = full().into_table();
-    for (at, bits) in [
-        (0, 0x20),
-        (191, 1),
-        (SLOT_BYTES - 1, 1),
-        (table.len() - 1, 1),
-    ] {
+    for at in [0, 191, SLOT_BYTES - 1, table.len() - 1] {
         let mut spoiled = table.clone();
-        spoiled[at] ^= bits;
+        spoiled[at] ^= 1;
         assert_no_tally(&spoiled, error, refused);
     }
     let twice = [&table[..SLOT_BYTES], &table[..SLOT_BYTES]].concat();

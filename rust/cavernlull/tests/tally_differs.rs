@@ -42,7 +42,7 @@ fn requests() -> Vec<Request> {
     let (handle, new_handle) = (Handle([1; 10]), Handle([9; 10]));
     let (reserved, disabled) = (Handle([2; 10]), Handle([4; 10]));
     let right = Right {
-        hashes: vec![AssetHash::Short([0xA1; 20])],
+        hashes: vec![AssetHash([0xA1; 20])],
         payload: vec![7],
         ..Right::default()
     };

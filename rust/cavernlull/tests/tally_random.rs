@@ -58,7 +58,7 @@ fn any_request(rng: &mut Rng, slots: usize) -> Request {
     let count = rng.one_in(2).then(|| rng.word());
     let right = Right {
         count,
-        hashes: vec![AssetHash::Short([0xA1; 20]); 1 + rng.below(8)],
+        hashes: vec![AssetHash([0xA1; 20]); 1 + rng.below(8)],
         payload: vec![7; rng.pick(&[1, 5, 300, 4096])],
         ..Right::default()
     };

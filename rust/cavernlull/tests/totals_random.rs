@@ -69,7 +69,7 @@ fn any_request(rng: &mut Rng, slots: usize) -> Request {
     let count = Some(rng.pick(&[0, 1, 2, number, 65_535])).filter(|_| !rng.one_in(4));
     let right = Right {
         count,
-        hashes: vec![AssetHash::Short([0xA1; 20])],
+        hashes: vec![AssetHash([0xA1; 20])],
         payload: vec![7; 5],
         ..Right::default()
     };

@@ -98,8 +98,8 @@ fn an_old_table_is_refused_where_it_has_counts() {
     assert!(Card::from(without).call_frame(&frame, &mut reply).is_ok());
 }
 
-/// A table in which a count is kept is not turned again, also where it is 0, nor
-/// is one with long hashes. One without either may be, and stays as it is.
+/// A table in which a count is kept is not turned again, also where it is 0.
+/// One without counts may be, and stays as it is.
 #[test]
 fn a_table_is_turned_once() {
     let mut card = Card::from(old_table());
@@ -109,10 +109,6 @@ fn a_table_is_turned_once() {
     used_up[0] |= 2;
     assert!(!Listing::of(&used_up).as_str().starts_with("refused"));
     assert_not_turned(&used_up, TurnError::TableNotWellFormed);
-    let mut long = old_slot(ENABLED, 1, 0);
-    long[0] |= 1;
-    assert!(!Listing::of(&long).as_str().starts_with("refused"));
-    assert_not_turned(&long, TurnError::TableNotWellFormed);
     for slots in 1..=MOST_SLOTS {
         let mut without = Card::blank(slots);
         assert_eq!((without.turn(), without.turn()), (Ok(()), Ok(())));

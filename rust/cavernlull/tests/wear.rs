@@ -62,7 +62,7 @@ impl Desk {
         assert_eq!(changed.len(), 1);
         self.taken[changed[0]] += 1;
         let right = Right {
-            hashes: vec![AssetHash::Short(*b"SHA-1 of the course!")],
+            hashes: vec![AssetHash(*b"SHA-1 of the course!")],
             payload: b"a course!".to_vec(),
             ..Right::default()
         };

@@ -9,7 +9,7 @@ const BORROWER: Handle = Handle([2; 10]);
 const LENT: Handle = Handle([3; 10]);
 const OTHER: Handle = Handle([4; 10]);
 
-const ASSET: AssetHash = AssetHash::Short([0xA1; HASH_BYTES]);
+const ASSET: AssetHash = AssetHash([0xA1; HASH_BYTES]);
 
 const RESERVED: u8 = 1;
 const ENABLED: u8 = 2;
@@ -34,7 +34,7 @@ fn slot(place: u8, handle: Handle, right: &Right) -> Vec<u8> {
     slot[27..29].copy_from_slice(&right.count.unwrap_or(0).to_be_bytes());
     slot[29..31].copy_from_slice(&(right.payload.len() as u16).to_be_bytes());
     for (hash, bytes) in right.hashes.iter().zip(slot[31..].chunks_mut(HASH_BYTES)) {
-        bytes.copy_from_slice(hash.as_bytes());
+        bytes.copy_from_slice(&hash.0);
     }
     slot[192..192 + right.payload.len()].copy_from_slice(&right.payload);
     slot
@@ -137,7 +137,7 @@ fn the_shortest_installation_has_a_hash_and_a_byte() {
     let mut card = Card::from(reserved());
     assert_answers(&mut card, &installation(0, 0x10, 21), 0);
     let right = Right {
-        hashes: vec![AssetHash::Short([0xEE; HASH_BYTES])],
+        hashes: vec![AssetHash([0xEE; HASH_BYTES])],
         payload: vec![0xEE],
         ..old_right(None)
     };
@@ -226,7 +226,7 @@ fn such_a_right_is_listed_and_read() {
         );
         desk.finds(&[], &[COURSE, OTHER]);
         desk.finds(&[ASSET], &[OTHER]);
-        desk.finds(&[AssetHash::Short([0; HASH_BYTES])], &[]);
+        desk.finds(&[AssetHash([0; HASH_BYTES])], &[]);
         desk.reads(COURSE, count);
     }
 }

@@ -7,7 +7,6 @@
 use crate::alongside;
 use crate::card::{histories, Card, Handed, History};
 use crate::device;
-use crate::editions::{Answered, Editions};
 use crate::frames::Asker;
 use crate::mended::{Began, Mended};
 use crate::outcome::{none_comes, Counts, Outcome, Search, Searches, Unhashed};
@@ -87,10 +86,6 @@ pub struct Seen {
     pub searches: Searches,
     /// What came of requests about rights without a hash.
     pub unhashed: BTreeMap<Unhashed, u64>,
-    /// What came of requests of both editions.
-    pub editions: BTreeMap<Editions, u64>,
-    /// The versions of requests, with those of their replies.
-    pub versions: BTreeMap<Answered, u64>,
     /// Which number went before which, where a call had a reason for both.
     pub precedences: BTreeMap<Precedence, u64>,
     /// What 105 and 106 were given for.
@@ -135,16 +130,6 @@ impl Seen {
             *self.unhashed.entry(unhashed).or_default() += 1;
         }
         Ok(())
-    }
-
-    /// Notes what the archive made of a call, by the editions of request and record.
-    fn note_editions(&mut self, before: &[u8], frame: &[u8], call: &Call) {
-        for editions in Editions::all_of(before, frame, call) {
-            *self.editions.entry(editions).or_default() += 1;
-        }
-        if let Some(answered) = Answered::of(frame, call) {
-            *self.versions.entry(answered).or_default() += 1;
-        }
     }
 
     /// Notes what became of a call's tally, if it is what must become of it. One
@@ -262,7 +247,7 @@ fn call(
 /// reference makes of it; `None` where the call gave none. The driver is handed
 /// the reference's reply, which is that of the archive too, or the call differs.
 fn read_back_both(giver: &mut Giver<Expected>, rng: &mut Rng, call: &Call) -> Result<Option<Read>> {
-    if call.number != DONE || call.reply[0] & 31 != 3 || call.reply[1] & 0x7F != 0 {
+    if call.number != DONE || call.reply[0] != 0x23 || call.reply[1] & 0x7F != 0 {
         return Ok(None);
     }
     let length = 4 + usize::from(u16::from_be_bytes([call.reply[2], call.reply[3]]));
@@ -300,7 +285,6 @@ impl Checker {
             let outcome = Outcome::of(call.number, frame, &call.reply);
             self.seen.note(outcome, expected)?;
             self.seen.note_unhashed(&expected.before, frame, given)?;
-            self.seen.note_editions(&expected.before, frame, call);
             let returned = Returned::of(&expected.before, call.number, frame, &call.reply);
             if let Some(returned) = returned {
                 *self.seen.returns.entry(returned).or_default() += 1;

@@ -2,7 +2,7 @@
 //! damaged.
 
 use crate::frames::Asker;
-use crate::tables::{another_mark, any_record, blank, record, wrong_length};
+use crate::tables::{any_record, blank, record, wrong_length};
 use random::Rng;
 use reference::{Handle, HANDLE_BYTES, SLOT_BYTES};
 use std::fmt;
@@ -25,8 +25,6 @@ pub enum Damage {
     BlockAcross,
     /// A record gets another place.
     Place,
-    /// A slot gets the mark of hashes of 32 bytes, or loses it.
-    Mark,
     /// A byte of an empty slot is changed.
     EmptySlot,
     /// Two records or more get one handle.
@@ -45,14 +43,13 @@ pub enum Damage {
 
 impl Damage {
     /// All that is done, but for another length: it leaves whole slots.
-    pub const WITHIN: [Damage; 13] = [
+    pub const WITHIN: [Damage; 12] = [
         Damage::Nothing,
         Damage::Bit,
         Damage::BitOfHandle,
         Damage::Block,
         Damage::BlockAcross,
         Damage::Place,
-        Damage::Mark,
         Damage::EmptySlot,
         Damage::Repeated,
         Damage::RepeatedAndWorn,
@@ -62,11 +59,10 @@ impl Damage {
     ];
 
     /// What is done one after the other.
-    const SINGLE: [Damage; 8] = [
+    const SINGLE: [Damage; 7] = [
         Damage::Bit,
         Damage::Block,
         Damage::Place,
-        Damage::Mark,
         Damage::EmptySlot,
         Damage::Repeated,
         Damage::RepeatedAndWorn,
@@ -88,7 +84,6 @@ impl Damage {
             Damage::Block => block(rng, table),
             Damage::BlockAcross => block_across(rng, table),
             Damage::Place => other_place(rng, table),
-            Damage::Mark => other_mark(rng, table),
             Damage::EmptySlot => empty_slot(rng, table),
             Damage::Repeated => drop(repeat_handle(rng, table)),
             Damage::RepeatedAndWorn => repeated_and_worn(rng, table),
@@ -109,7 +104,6 @@ impl fmt::Display for Damage {
             Damage::Block => "a block overwritten",
             Damage::BlockAcross => "a block across slots overwritten",
             Damage::Place => "a place changed",
-            Damage::Mark => "a mark changed",
             Damage::EmptySlot => "an empty slot changed",
             Damage::Repeated => "a handle repeated",
             Damage::RepeatedAndWorn => "a handle repeated and a slot worn",
@@ -271,12 +265,6 @@ fn other_place(rng: &mut Rng, table: &mut [u8]) {
     slot(table, index)[0] ^= rng.pick(&[0x40, 0x80, 0xC0]);
 }
 
-/// Changes the mark of a slot, and mostly its hash count too.
-fn other_mark(rng: &mut Rng, table: &mut [u8]) {
-    let index = any_slot(rng, table);
-    another_mark(rng, &mut slot(table, index)[0]);
-}
-
 /// Changes a byte of an empty slot: of its head, or any.
 fn empty_slot(rng: &mut Rng, table: &mut [u8]) {
     let order = any_order(rng, slots_of(table));
@@ -341,12 +329,12 @@ fn worn(rng: &mut Rng, table: &mut [u8]) {
     }
 }
 
-/// Makes a slot break a rule that there is for every place: by byte 191, the mark and
-/// no hash or more than 5, a hash count over 8 or a length over 4,096.
+/// Makes a slot break a rule that there is for every place: by byte 191, the spare
+/// bit, a hash count over 8 or a length over 4,096.
 fn wear(rng: &mut Rng, slot: &mut [u8]) {
     match rng.below(4) {
         0 => slot[191] = 1 + rng.below(255) as u8,
-        1 => slot[0] = slot[0] & !0x3C | rng.pick(&[0x01, 6 << 2 | 0x01]),
+        1 => slot[0] |= 0x01,
         2 => slot[0] |= 0x24,
         _ => slot[29] |= 0x20,
     }

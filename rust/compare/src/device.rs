@@ -1,19 +1,18 @@
 //! Requests written and replies read, at random.
 
-use crate::frames::{any_edition, count, frame_in, payload_length, room, Asker};
+use crate::frames::{count, frame, payload_length, room, Asker};
 use crate::outcome::Counted;
-use crate::pipeline::{self, Giver};
-use driver::{Answers, Numbers, Read, Written};
+use crate::pipeline;
+use driver::{Numbers, Read, Written};
 use random::Rng;
-use reference::{read_reply, write_request, Count, Edition, Handle, Key, Reply, Status};
-use reference::{WriterFields, HANDLE_BYTES};
+use reference::{read_reply, write_request, Count, Handle, Key, Reply, Status, WriterFields};
+use reference::{HANDLE_BYTES, HASH_BYTES};
 use std::collections::BTreeMap;
 use std::fmt;
-use std::io::Result;
 
-/// How often each number occurred, in each edition, with each kind asked for and what
-/// count and `kept` say.
-pub type WriterCounts = BTreeMap<(u16, Edition, u8, Handed), u64>;
+/// How often each number occurred, with each kind asked for and what count and
+/// `kept` say.
+pub type WriterCounts = BTreeMap<(u16, u8, Handed), u64>;
 
 /// How often each of these was read.
 pub type ReaderCounts = BTreeMap<Told, u64>;
@@ -21,11 +20,8 @@ pub type ReaderCounts = BTreeMap<Told, u64>;
 /// What occurred among requests that were written or refused, and how often.
 #[derive(Default)]
 pub struct WriterSeen {
-    /// The numbers, in each edition, with each kind asked for and what count and `kept`
-    /// say.
+    /// The numbers, with each kind asked for and what count and `kept` say.
     pub counts: WriterCounts,
-    /// The numbers for versions that there are not, with these and each kind asked for.
-    pub outside: BTreeMap<(u16, u8, u8), u64>,
     /// What came of requests without a hash.
     pub without_hash: BTreeMap<WithoutHash, u64>,
 }
@@ -33,8 +29,6 @@ pub struct WriterSeen {
 /// What the writer gave for a request without a hash that it takes with one.
 #[derive(Clone, Copy, Debug, PartialEq, Eq, PartialOrd, Ord)]
 pub struct WithoutHash {
-    /// The edition.
-    pub edition: Edition,
     /// The kind, 2 or 8.
     pub kind: u8,
     /// Whether the buffer was too short for the frame without a hash.
@@ -46,34 +40,28 @@ pub struct WithoutHash {
 impl WithoutHash {
     /// All that can occur: a query needs no hash, and an installation that has
     /// none is refused before the buffer is looked at (PROFILE 6.2).
-    pub fn that_can_occur() -> Vec<WithoutHash> {
-        let rows = [
-            (2, false, 202),
-            (2, true, 202),
-            (8, false, 0),
-            (8, true, 201),
-        ];
-        let of = |edition| {
-            rows.map(|(kind, short, number)| WithoutHash {
-                edition,
+    pub const ALL: [WithoutHash; 4] = {
+        const fn gives(kind: u8, short: bool, number: u16) -> WithoutHash {
+            WithoutHash {
                 kind,
                 short,
                 number,
-            })
-        };
-        Edition::ALL.map(of).concat()
-    }
+            }
+        }
+        [
+            gives(2, false, 202),
+            gives(2, true, 202),
+            gives(8, false, 0),
+            gives(8, true, 201),
+        ]
+    };
 }
 
 impl fmt::Display for WithoutHash {
     fn fmt(&self, f: &mut fmt::Formatter<'_>) -> fmt::Result {
         let WithoutHash { kind, number, .. } = self;
-        let version = self.edition.version();
         let buffer = if self.short { "short" } else { "long enough" };
-        write!(
-            f,
-            "version {version}, no hash, kind {kind}, the buffer {buffer}: {number}"
-        )
+        write!(f, "no hash, kind {kind}, the buffer {buffer}: {number}")
     }
 }
 
@@ -82,8 +70,6 @@ impl fmt::Display for WithoutHash {
 pub struct Told {
     /// The number given.
     pub number: u16,
-    /// The version.
-    pub version: u8,
     /// The kind.
     pub kind: u8,
     /// The status.
@@ -164,9 +150,9 @@ impl OwnFields {
         }
     }
 
-    /// Fields that the writer takes for this kind in this edition, and none for a kind
-    /// outside 1 to 9.
-    fn of_kind(rng: &mut Rng, asker: &Asker, edition: Edition, kind: u8) -> OwnFields {
+    /// Fields that the writer takes for this kind, and none for a kind outside 1
+    /// to 9.
+    fn of_kind(rng: &mut Rng, asker: &Asker, kind: u8) -> OwnFields {
         let mut fields = OwnFields::default();
         let names: &[u8] = match kind {
             1 => b"hl",
@@ -178,13 +164,13 @@ impl OwnFields {
             _ => b"",
         };
         for &name in names {
-            fields.set(rng, asker, edition, name);
+            fields.set(rng, asker, name);
         }
         fields
     }
 
     /// Gives one field a value, which may be zero or empty.
-    fn set(&mut self, rng: &mut Rng, asker: &Asker, edition: Edition, name: u8) {
+    fn set(&mut self, rng: &mut Rng, asker: &Asker, name: u8) {
         match name {
             b'h' => self.handle = asker.handle(rng),
             b'n' => self.new_handle = asker.handle(rng),
@@ -195,8 +181,8 @@ impl OwnFields {
                 (self.count, self.kept) = (count.number, count.kept.into());
             }
             b'i' => self.limit = count(rng).number,
-            b'a' => self.hashes = asker.hashes(rng, edition),
-            b's' => self.hashes = asker.some_hashes(rng, edition),
+            b'a' => self.hashes = asker.hashes(rng),
+            b's' => self.hashes = asker.some_hashes(rng),
             _ => {
                 let length = payload_length(rng);
                 self.payload = rng.bytes(length);
@@ -206,27 +192,25 @@ impl OwnFields {
 
     /// Changes a field in a way that the writer may refuse.
     fn spoil(&mut self, rng: &mut Rng, asker: &Asker) {
-        match rng.below(10) {
+        match rng.below(9) {
             0 => {
                 let length = rng.pick(&[0, 1, 4096, 4097]);
                 self.payload = rng.bytes(length);
             }
             1 => {
-                let length = rng.pick(&[
-                    1, 19, 20, 21, 31, 32, 33, 40, 64, 159, 160, 161, 180, 192, 320,
-                ]);
+                let length = rng.pick(&[1, 19, 21, 159, 160, 161, 180, 320]);
                 self.hashes = rng.bytes(length);
             }
             2 => self.key[rng.below(16)] = rng.bit(8),
             3 => self.new_handle[rng.below(HANDLE_BYTES)] = rng.bit(8),
-            4..7 => {
+            4..6 => {
                 self.count = rng.pick(&[0, 0, 0, 1, 0x100, 0xFFFF]);
                 self.kept = rng.pick(&[0, 0, 1, 1, 2, 255]);
             }
-            7 => self.hashes.clear(),
+            6 => self.hashes.clear(),
             _ => {
-                let (edition, name) = (any_edition(rng), rng.pick(b"hnklciap"));
-                self.set(rng, asker, edition, name);
+                let name = rng.pick(b"hnklciap");
+                self.set(rng, asker, name);
             }
         }
     }
@@ -243,127 +227,37 @@ pub fn compare_writers(mut rng: Rng, calls: u64) -> WriterSeen {
         move |giver| {
             let asker = Asker::new(4);
             for _ in 0..calls {
-                let edition = any_edition(&mut rng);
-                let version = match rng.below(4) {
-                    0 => rng.pick(&VERSIONS_OUTSIDE),
-                    _ => edition.version(),
-                };
                 let kind = rng.pick(&[0, 1, 2, 2, 2, 3, 4, 5, 6, 7, 8, 8, 9, 10, 31, 33, 255]);
-                let mut fields = OwnFields::of_kind(&mut rng, &asker, edition, kind);
-                if rng.one_in(2) {
+                let mut fields = OwnFields::of_kind(&mut rng, &asker, kind);
+                if rng.one_in(3) {
                     fields.spoil(&mut rng, &asker);
                 }
-                let out = out_buffer(&mut rng, (edition, kind), &fields.lent());
-                write(giver, Asked { version, kind }, fields, out)?;
+                let mut out = out_buffer(&mut rng, kind, &fields.lent());
+                giver.commands.write_request(kind, &fields.sent(), &out)?;
+                let number = write_request(kind, &fields.lent(), &mut out);
+                giver.expect((kind, fields, Written { number, out }))?;
             }
             Ok(())
         },
-        |answers, (asked, fields, expected)| {
-            let given = check_written(answers, asked, &fields, &expected);
-            seen.note(asked, &fields, &given);
+        |answers, (kind, fields, expected)| {
+            let given = answers.written();
+            if let Err(difference) = given.same_as(&expected) {
+                panic!("kind {kind} and {fields:02x?}: {difference}");
+            }
+            seen.note(kind, &fields, &given);
         },
     );
     seen
 }
 
-/// The versions that there are not, and that the writer is asked for.
-pub const VERSIONS_OUTSIDE: [u8; 3] = [0, 3, 255];
-
-/// The version and the kind that the writer is asked for.
-#[derive(Clone, Copy, Debug)]
-struct Asked {
-    version: u8,
-    kind: u8,
-}
-
-/// A request that the writer is given, and what the reference makes of it.
-type ToWrite = (Asked, OwnFields, Written);
-
-/// Has a request written, by the driver and by the reference.
-fn write(
-    giver: &mut Giver<ToWrite>,
-    asked: Asked,
-    fields: OwnFields,
-    mut out: Vec<u8>,
-) -> Result<()> {
-    let Asked { version, kind } = asked;
-    let commands = &mut giver.commands;
-    commands.write_request(version, kind, &fields.sent(), &out)?;
-    let number = write_request(version, kind, &fields.lent(), &mut out);
-    giver.expect((asked, fields, Written { number, out }))
-}
-
-/// Takes what the driver has written, and checks it.
-fn check_written(
-    answers: &mut Answers,
-    asked: Asked,
-    fields: &OwnFields,
-    expected: &Written,
-) -> Written {
-    let given = answers.written();
-    if let Err(difference) = given.same_as(expected) {
-        panic!("{asked:?} and {fields:02x?}: {difference}");
-    }
-    given
-}
-
-/// Has requests of every kind written with hash bytes of every length up to 330, in
-/// both versions and in others, and checks each. Gives version, kind and length of those
-/// that were written.
-///
-/// # Panics
-///
-/// Where the archive and the reference differ.
-pub fn written_with_hash_bytes(mut rng: Rng) -> Vec<(u8, u8, usize)> {
-    let mut written = Vec::new();
-    pipeline::run(
-        move |giver| {
-            let versions = [&[1, 2], &VERSIONS_OUTSIDE[..]].concat();
-            for (version, kind) in versions
-                .iter()
-                .flat_map(|&version| (1..=9).map(move |kind| (version, kind)))
-            {
-                for length in 0..=330 {
-                    let payload = if kind == 2 {
-                        vec![rng.byte()]
-                    } else {
-                        Vec::new()
-                    };
-                    let fields = OwnFields {
-                        hashes: rng.bytes(length),
-                        payload,
-                        ..OwnFields::default()
-                    };
-                    let out = rng.bytes(400);
-                    write(giver, Asked { version, kind }, fields, out)?;
-                }
-            }
-            Ok(())
-        },
-        |answers, (asked, fields, expected)| {
-            if check_written(answers, asked, &fields, &expected).number == 0 {
-                written.push((asked.version, asked.kind, fields.hashes.len()));
-            }
-        },
-    );
-    written
-}
-
 impl WriterSeen {
     /// Notes a request that was written or refused as expected.
-    fn note(&mut self, asked: Asked, fields: &OwnFields, given: &Written) {
-        let (number, kind) = (given.number, asked.kind);
-        let Some(edition) = Edition::of_version(asked.version) else {
-            let outside = self.outside.entry((number, asked.version, kind));
-            *outside.or_default() += 1;
-            return;
-        };
+    fn note(&mut self, kind: u8, fields: &OwnFields, given: &Written) {
+        let number = given.number;
         let handed = Handed::of(fields.count, fields.kept);
-        let counts = self.counts.entry((number, edition, kind, handed));
-        *counts.or_default() += 1;
-        if let Some(length) = length_without_hash((edition, kind), &fields.lent()) {
+        *self.counts.entry((number, kind, handed)).or_default() += 1;
+        if let Some(length) = length_without_hash(kind, &fields.lent()) {
             let without_hash = WithoutHash {
-                edition,
                 kind,
                 short: given.out.len() < length,
                 number,
@@ -375,27 +269,27 @@ impl WriterSeen {
 
 /// The length of the frame that the reference writes; `None` where it writes
 /// none.
-fn written_length((edition, kind): (Edition, u8), fields: &WriterFields<'_>) -> Option<usize> {
+fn written_length(kind: u8, fields: &WriterFields<'_>) -> Option<usize> {
     let mut long = [0; 4300];
-    let number = write_request(edition.version(), kind, fields, &mut long);
+    let number = write_request(kind, fields, &mut long);
     (number == 0).then(|| 4 + usize::from(u16::from_be_bytes([long[2], long[3]])))
 }
 
 /// The length of the frame of a request without a hash, whether it is written or
 /// not; `None` where it has a hash, or would not be written with one either.
-fn length_without_hash(asked: (Edition, u8), fields: &WriterFields<'_>) -> Option<usize> {
+fn length_without_hash(kind: u8, fields: &WriterFields<'_>) -> Option<usize> {
     if !fields.hashes.is_empty() {
         return None;
     }
-    let hashes = &vec![1; asked.0.hash_bytes()];
+    let hashes = &[1; HASH_BYTES];
     let hashed = WriterFields { hashes, ..*fields };
-    Some(written_length(asked, &hashed)? - hashes.len())
+    Some(written_length(kind, &hashed)? - HASH_BYTES)
 }
 
 /// A buffer about as long as the frame, or as the one that is missing a hash.
-fn out_buffer(rng: &mut Rng, asked: (Edition, u8), fields: &WriterFields<'_>) -> Vec<u8> {
-    let length = written_length(asked, fields)
-        .or_else(|| length_without_hash(asked, fields))
+fn out_buffer(rng: &mut Rng, kind: u8, fields: &WriterFields<'_>) -> Vec<u8> {
+    let length = written_length(kind, fields)
+        .or_else(|| length_without_hash(kind, fields))
         .unwrap_or(40);
     let room = match rng.below(6) {
         0 => rng.below(length),
@@ -425,7 +319,6 @@ impl Told {
     /// What 203 tells.
     pub const NOTHING: Told = Told {
         number: 203,
-        version: 0,
         kind: 0,
         status: 0,
         counted: Counted::Nothing,
@@ -448,7 +341,6 @@ impl Told {
         };
         Told {
             number,
-            version: given.numbers[11] as u8,
             kind,
             status,
             counted,
@@ -519,9 +411,9 @@ pub(crate) fn expected(frame: &[u8], key: Key, numbers: Numbers) -> Read {
     }
 }
 
-/// The twelve numbers of a reply: kind, status, count, number and offset of the
+/// The eleven numbers of a reply: kind, status, count, number and offset of the
 /// hashes, offset and length of the payload, more, number and offset of the
-/// handles, whether a count is kept, and the version.
+/// handles, and whether a count is kept.
 fn numbers_of(reply: &Reply<'_>, frame: &[u8]) -> Numbers {
     let fields = &reply.fields;
     let (hashes_at, payload_at, handles_at) = match (reply.status, reply.kind) {
@@ -537,7 +429,7 @@ fn numbers_of(reply: &Reply<'_>, frame: &[u8]) -> Numbers {
         reply.kind.into(),
         reply.status.number().into(),
         fields.count.number().into(),
-        fields.hashes.len() / reply.edition.hash_bytes(),
+        fields.hashes.len() / HASH_BYTES,
         hashes_at,
         payload_at,
         fields.payload.len(),
@@ -545,43 +437,38 @@ fn numbers_of(reply: &Reply<'_>, frame: &[u8]) -> Numbers {
         fields.handles.len() / HANDLE_BYTES,
         handles_at,
         fields.count.is_kept().into(),
-        reply.edition.version().into(),
     ]
     .map(|number| u16::try_from(number).expect("no number is so large"))
 }
 
 impl Asker {
-    /// A reply frame of either edition: a refusal or a success. Some are spoiled, and
-    /// one in ten has the other bit of a count.
+    /// A reply frame; one in three is spoiled, and one in ten has the other bit of
+    /// a count.
     fn reply(&self, rng: &mut Rng) -> Vec<u8> {
-        let edition = any_edition(rng);
-        let (mut reply, spoiled_in) = match rng.below(3) {
-            0 => (self.success(rng, edition), 3),
-            _ => (refusal(rng, edition), 10),
+        let mut reply = match rng.below(4) {
+            0 => frame(rng.below(32) as u8, rng.below(11) as u8, &[]),
+            _ => {
+                let kind = 1 + rng.below(9) as u8;
+                let count = count(rng);
+                let second = match kind {
+                    3 | 9 if count.kept => KEPT,
+                    _ => 0,
+                };
+                frame(kind, second, &self.given(rng, kind, count.number))
+            }
         };
         if rng.one_in(10) {
             reply[1] ^= KEPT;
         }
-        if rng.one_in(spoiled_in) {
+        if rng.one_in(3) {
             self.spoil(rng, &mut reply);
         }
         reply
     }
 
-    fn success(&self, rng: &mut Rng, edition: Edition) -> Vec<u8> {
-        let kind = 1 + rng.below(9) as u8;
-        let count = count(rng);
-        let second = match kind {
-            3 | 9 if count.kept => KEPT,
-            _ => 0,
-        };
-        let body = self.given(rng, edition, kind, count.number);
-        frame_in(edition.version(), kind, second, &body)
-    }
-
     /// The body of a success, with this number if it has a count; now and then a
     /// little too long or too short.
-    fn given(&self, rng: &mut Rng, edition: Edition, kind: u8, count: u16) -> Vec<u8> {
+    fn given(&self, rng: &mut Rng, kind: u8, count: u16) -> Vec<u8> {
         let length = match rng.below(8) {
             0 => rng.pick(&[0, 4096, 4097]),
             _ => payload_length(rng),
@@ -591,11 +478,8 @@ impl Asker {
         let count = count.to_be_bytes();
         match kind {
             3 => {
-                let hashes = match rng.below(8) {
-                    0 => self.so_many_hashes(rng, edition, edition.most_hashes() + 1),
-                    _ => self.hashes(rng, edition),
-                };
-                let head = [(hashes.len() / edition.hash_bytes()) as u8 * 16];
+                let hashes = self.hashes(rng);
+                let head = [(hashes.len() / HASH_BYTES) as u8 * 16];
                 [&key, &count[..], &head, &hashes, &payload].concat()
             }
             4 => key,
@@ -609,13 +493,4 @@ impl Asker {
             _ => Vec::new(),
         }
     }
-}
-
-/// A refusal of any kind, mostly with a status that there is.
-fn refusal(rng: &mut Rng, edition: Edition) -> Vec<u8> {
-    let status = match rng.below(10) {
-        0 => rng.pick(&[0, 8, 11, 12, 0x7F]),
-        _ => rng.pick(&[1, 2, 3, 4, 5, 6, 7, 9, 10]),
-    };
-    frame_in(edition.version(), rng.below(32) as u8, status, &[])
 }

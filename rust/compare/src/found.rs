@@ -50,56 +50,8 @@ pub enum Came {
     },
     /// A right without a hash was kept, and some other slot was cleared.
     UnhashedKept,
-    /// A slot in this place had the mark, and this was found of it.
-    Marked(Place, Marked, Finding),
     /// A record under ten zeros was kept, and an empty slot.
     ZerosAndEmpty,
-}
-
-/// How many hashes a slot with the mark is said to have.
-#[derive(Clone, Copy, Debug, PartialEq, Eq, PartialOrd, Ord)]
-pub enum Marked {
-    /// None: it should have no mark.
-    None,
-    /// As many as go with the mark.
-    Some,
-    /// More.
-    TooMany,
-}
-
-impl Marked {
-    fn of(slot: &SlotBytes) -> Marked {
-        match slot::hash_count(slot) {
-            0 => Marked::None,
-            1..=5 => Marked::Some,
-            _ => Marked::TooMany,
-        }
-    }
-
-    /// What can be found of slots that have the mark: all are damaged but rights with as
-    /// many hashes as go with it (PROFILE 2.10).
-    fn that_can_occur() -> Vec<Came> {
-        let mut all = Vec::new();
-        for place in [
-            Place::Empty,
-            Place::Reserved,
-            Place::Enabled,
-            Place::Disabled,
-        ] {
-            for marked in [Marked::None, Marked::Some, Marked::TooMany] {
-                let findings: &[Finding] = match marked {
-                    Marked::Some if place >= Place::Enabled => &Finding::ALL,
-                    _ => &[Finding::Damaged],
-                };
-                all.extend(
-                    findings
-                        .iter()
-                        .map(|&found| Came::Marked(place, marked, found)),
-                );
-            }
-        }
-        all
-    }
 }
 
 impl Came {
@@ -114,7 +66,6 @@ impl Came {
                 came.extend([Came::Room(room), Came::After(lent.damage)]);
                 let found = Found::of(&lent.table, &given.report);
                 came.extend(found.one_by_one());
-                came.extend(found.marked());
                 came.extend(found.by_handle());
                 came.extend(found.beside_others());
                 if lent.changed.len() == 1 {
@@ -138,7 +89,6 @@ impl Came {
         all.extend([false, true].map(|below| Came::DamagedAlike { below }));
         all.extend([Came::LengthBeforeReport, Came::UnhashedKept]);
         all.push(Came::ZerosAndEmpty);
-        all.extend(Marked::that_can_occur());
         let empty = [Finding::Kept, Finding::Damaged];
         all.extend(empty.map(|finding| Came::In(Place::Empty, finding)));
         let records = [Place::Reserved, Place::Enabled, Place::Disabled];
@@ -179,11 +129,6 @@ impl<'a> Found<'a> {
     fn one_by_one(&self) -> impl Iterator<Item = Came> + '_ {
         let slots = self.0.iter();
         slots.map(|(slot, finding)| Came::In(slot::place(slot), *finding))
-    }
-
-    fn marked(&self) -> impl Iterator<Item = Came> + '_ {
-        let slots = self.0.iter().filter(|(slot, _)| slot::long(slot));
-        slots.map(|(slot, found)| Came::Marked(slot::place(slot), Marked::of(slot), *found))
     }
 
     /// How often kept handles occur, and in which places.
@@ -256,15 +201,6 @@ impl fmt::Display for Came {
                 write!(f, "a damaged slot {side} has the handle of a kept one")
             }
             Came::UnhashedKept => write!(f, "a right without a hash kept"),
-            Came::Marked(place, marked, found) => {
-                let hashes = match marked {
-                    Marked::None => "no hash",
-                    Marked::Some => "1 to 5 hashes",
-                    Marked::TooMany => "6 to 15 hashes",
-                };
-                let (place, found) = (place.word(), found.word());
-                write!(f, "{place} with the mark and {hashes}, {found}")
-            }
             Came::ZerosAndEmpty => write!(f, "a handle of zeros and an empty slot"),
         }
     }

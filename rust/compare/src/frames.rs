@@ -1,14 +1,10 @@
 //! Request frames at random, right and wrong ones.
 
 use random::Rng;
-use reference::{Edition, Handle};
+use reference::{Handle, HASH_BYTES};
 
-/// The bytes of a hash of the first edition, and those that one of the second has more.
-const SHORT: usize = Edition::First.hash_bytes();
-const MORE: usize = Edition::Second.hash_bytes() - SHORT;
-
-/// A hash of the second edition.
-type Hash = [u8; SHORT + MORE];
+/// A hash.
+type Hash = [u8; HASH_BYTES];
 
 /// The verdict: the highest bit of the second byte, set where the MAC held.
 const VERDICT: u8 = 0x80;
@@ -16,21 +12,13 @@ const VERDICT: u8 = 0x80;
 /// The bit of the second byte that says that a count is kept, in kinds 2 and 5.
 const KEPT: u8 = 0x40;
 
-/// Where in the first byte of a frame the version is, and the bits of the kind.
-const VERSION_AT: u32 = 5;
-const KIND_BITS: u8 = 0x1F;
-
 /// The kinds outside 1 to 9.
 pub const KINDS_OUTSIDE: [u8; 23] = [
     0, 10, 11, 12, 13, 14, 15, 16, 17, 18, 19, 20, 21, 22, 23, 24, 25, 26, 27, 28, 29, 30, 31,
 ];
 
-/// The versions that there are not.
-pub const VERSIONS_OUTSIDE: [u8; 6] = [0, 3, 4, 5, 6, 7];
-
 /// Makes frames about few handles and few hashes, so that requests meet each
-/// other and every status comes up. A hash of the first edition is how one of the
-/// second begins, and some of the second differ only after that.
+/// other and every status comes up.
 pub struct Asker {
     handles: Vec<Handle>,
     hashes: Vec<Hash>,
@@ -41,7 +29,7 @@ impl Asker {
     pub fn new(slots: usize) -> Self {
         Asker {
             handles: (0..slots + 2).map(near).collect(),
-            hashes: (0..9).map(hash).collect(),
+            hashes: (0..6).map(near).collect(),
         }
     }
 
@@ -55,47 +43,26 @@ impl Asker {
         rng.pick(&self.handles)
     }
 
-    /// As many hashes as a query may have, one after another; two may be equal.
-    pub fn hashes(&self, rng: &mut Rng, edition: Edition) -> Vec<u8> {
+    /// Up to 8 hashes, one after another; two may be equal.
+    pub fn hashes(&self, rng: &mut Rng) -> Vec<u8> {
         match rng.below(10) {
             0..3 => Vec::new(),
-            _ => self.some_hashes(rng, edition),
+            _ => self.some_hashes(rng),
         }
     }
 
-    /// As many hashes as a right may be installed with.
-    pub fn some_hashes(&self, rng: &mut Rng, edition: Edition) -> Vec<u8> {
-        let most = edition.most_hashes();
-        let count = match rng.below(6) {
-            0..2 => 1,
-            2 => most,
-            _ => 1 + rng.below(most),
-        };
-        self.so_many_hashes(rng, edition, count)
+    /// As many hashes as a right may be installed with, 1 to 8.
+    pub fn some_hashes(&self, rng: &mut Rng) -> Vec<u8> {
+        let count = rng.pick(&[1, 1, 1, 2, 3, 7, 8]);
+        (0..count).flat_map(|_| rng.pick(&self.hashes)).collect()
     }
 
-    /// So many hashes, which may be too many.
-    pub fn so_many_hashes(&self, rng: &mut Rng, edition: Edition, count: usize) -> Vec<u8> {
-        let hashes = (0..count).map(|_| rng.pick(&self.hashes));
-        hashes
-            .flat_map(|hash| hash[..edition.hash_bytes()].to_vec())
-            .collect()
-    }
-
-    /// A frame; one in five is spoiled, some of them more than once. Beside these, one
-    /// in 16 has a kind that there is not, and one in 24 the verdict 0.
+    /// A frame; one in five is spoiled, some of them more than once.
     pub fn frame(&self, rng: &mut Rng) -> Vec<u8> {
         let kind = rng.pick(&[
             1, 1, 1, 1, 2, 2, 2, 2, 3, 3, 3, 4, 4, 4, 5, 5, 5, 5, 6, 7, 8, 8, 9,
         ]);
-        let edition = any_edition(rng);
-        let mut frame = self.request(rng, edition, kind);
-        if rng.one_in(16) {
-            spoil_kind(rng, &mut frame);
-        }
-        if rng.one_in(24) {
-            frame[1] &= !VERDICT;
-        }
+        let mut frame = self.request(rng, kind);
         let mut again = 5;
         while rng.one_in(again) {
             self.spoil(rng, &mut frame);
@@ -106,64 +73,48 @@ impl Asker {
 
     /// A frame of the kind's shape. One in twelve of those that have a count has
     /// it without its bit.
-    fn request(&self, rng: &mut Rng, edition: Edition, kind: u8) -> Vec<u8> {
+    fn request(&self, rng: &mut Rng, kind: u8) -> Vec<u8> {
         let mut count = count(rng);
         count.kept &= !rng.one_in(12);
         let second = match kind {
             2 | 5 if count.kept => VERDICT | KEPT,
             _ => VERDICT,
         };
-        let body = self.body(rng, edition, kind, count.number);
-        frame_in(edition.version(), kind, second, &body)
+        frame(kind, second, &self.body(rng, kind, count.number))
     }
 
     /// A body of the kind's shape, with this number if it has a count.
-    fn body(&self, rng: &mut Rng, edition: Edition, kind: u8, count: u16) -> Vec<u8> {
+    fn body(&self, rng: &mut Rng, kind: u8, count: u16) -> Vec<u8> {
         let handle = self.handle(rng);
         match kind {
             1 => [&handle[..], &room(rng).to_be_bytes()].concat(),
             2 => {
                 let length = payload_length(rng);
-                let hashes = self.sent_hashes(rng, edition);
-                self.installation(rng, &handle, count, (edition, &hashes), length)
+                self.installation(rng, &handle, count, length)
             }
             3 | 4 => [handle, self.handle(rng)].concat(),
             5 => [&handle[..], &count.to_be_bytes()].concat(),
-            8 => {
-                let hashes = self.hashes(rng, edition);
-                list(rng, edition, &hashes)
-            }
+            8 => self.list(rng),
             _ => handle.to_vec(),
         }
     }
 
-    /// The hashes of an installation. One in six has none.
-    fn sent_hashes(&self, rng: &mut Rng, edition: Edition) -> Vec<u8> {
-        match rng.below(6) {
-            0 => Vec::new(),
-            _ => self.some_hashes(rng, edition),
-        }
-    }
-
-    /// The body of an installation.
-    fn installation(
-        &self,
-        rng: &mut Rng,
-        handle: &Handle,
-        count: u16,
-        (edition, hashes): (Edition, &[u8]),
-        payload: usize,
-    ) -> Vec<u8> {
+    /// The body of an installation. One in six has no hash.
+    fn installation(&self, rng: &mut Rng, handle: &Handle, count: u16, payload: usize) -> Vec<u8> {
         let key = match rng.below(8) {
             0 => vec![0; 16],
             _ => rng.bytes(16),
+        };
+        let hashes = match rng.below(6) {
+            0 => Vec::new(),
+            _ => self.some_hashes(rng),
         };
         [
             handle,
             &key[..],
             &count.to_be_bytes(),
-            &[hash_count(edition, hashes) << 4],
-            hashes,
+            &[hash_count(&hashes) << 4],
+            &hashes,
             &self.payload(rng, payload),
         ]
         .concat()
@@ -178,19 +129,33 @@ impl Asker {
         }
     }
 
+    fn list(&self, rng: &mut Rng) -> Vec<u8> {
+        let limit: u16 = match rng.below(3) {
+            0 => 0,
+            1 => rng.below(170) as u16,
+            _ => rng.pick(&[1, 9, 10, 11, 19, 20, 149, 150, 151, 0xFFFF]),
+        };
+        let hashes = self.hashes(rng);
+        [
+            &limit.to_be_bytes()[..],
+            &[hash_count(&hashes)],
+            &hashes[..],
+        ]
+        .concat()
+    }
+
     /// Changes a frame in a way that some test should notice.
     pub fn spoil(&self, rng: &mut Rng, frame: &mut Vec<u8>) {
         if frame.len() < 4 {
             return frame.push(rng.byte());
         }
-        match rng.below(8) {
+        match rng.below(7) {
             0 => spoil_first(rng, frame),
             1 => spoil_second(rng, frame),
             2 => spoil_length(rng, frame),
             3 => spoil_hash_count(rng, frame),
             4 => spoil_kind(rng, frame),
-            5 => other_version(frame),
-            6 => {
+            5 => {
                 let index = rng.below(frame.len());
                 frame[index] ^= rng.bit(8);
             }
@@ -200,109 +165,41 @@ impl Asker {
 
     /// A frame at the edge of what its kind allows.
     fn edge(&self, rng: &mut Rng) -> Vec<u8> {
-        let edition = any_edition(rng);
-        let version = edition.version();
+        let handle = self.handle(rng);
         let kind = 1 + rng.below(9) as u8;
-        let any = |rng: &mut Rng, length| frame_in(version, kind, VERDICT, &rng.bytes(length));
-        match rng.below(16) {
+        let any = |rng: &mut Rng, length| frame(kind, VERDICT, &rng.bytes(length));
+        match rng.below(12) {
             0 => any(rng, 0),
             1 => any(rng, 0xFFFF),
             2..5 => {
-                let lengths = [9, 11, 12, 13, 19, 20, 21, 29, 30, 31, 49, 50, 61, 62];
-                let length = rng.pick(&lengths);
+                let length = rng.pick(&[9, 11, 12, 13, 19, 20, 21, 29, 30, 31, 49, 50]);
                 any(rng, length)
             }
-            5..9 => {
-                let hashes = self.any_hashes(rng, edition);
-                let body = list(rng, edition, &hashes);
-                frame_in(version, 8, VERDICT, &body)
-            }
-            9..13 => {
-                let hashes = self.any_hashes(rng, edition);
-                let length = payload_length(rng);
-                self.counted_installation(rng, edition, &hashes, length)
-            }
             _ => {
-                let hashes = self.sent_hashes(rng, edition);
                 let length = rng.pick(&[0, 0, 1, 4096, 4097]);
-                self.counted_installation(rng, edition, &hashes, length)
+                let number = count(rng).number;
+                let body = self.installation(rng, &handle, number, length);
+                frame(2, VERDICT | KEPT, &body)
             }
         }
     }
-
-    /// Up to 15 hashes, mostly the most or too many.
-    fn any_hashes(&self, rng: &mut Rng, edition: Edition) -> Vec<u8> {
-        let most = edition.most_hashes();
-        let count = match rng.below(4) {
-            0 => rng.below(16),
-            1 => most,
-            2 => most + 1,
-            _ => most + 2 + rng.below(14 - most),
-        };
-        self.so_many_hashes(rng, edition, count)
-    }
-
-    /// The frame of an installation with a kept count.
-    fn counted_installation(
-        &self,
-        rng: &mut Rng,
-        edition: Edition,
-        hashes: &[u8],
-        payload: usize,
-    ) -> Vec<u8> {
-        let handle = self.handle(rng);
-        let number = count(rng).number;
-        let body = self.installation(rng, &handle, number, (edition, hashes), payload);
-        frame_in(edition.version(), 2, VERDICT | KEPT, &body)
-    }
-}
-
-/// The body of a list query.
-fn list(rng: &mut Rng, edition: Edition, hashes: &[u8]) -> Vec<u8> {
-    let limit: u16 = match rng.below(3) {
-        0 => 0,
-        1 => rng.below(170) as u16,
-        _ => rng.pick(&[1, 9, 10, 11, 19, 20, 149, 150, 151, 0xFFFF]),
-    };
-    [
-        &limit.to_be_bytes()[..],
-        &[hash_count(edition, hashes)],
-        hashes,
-    ]
-    .concat()
-}
-
-/// Either edition, the one as often as the other.
-pub fn any_edition(rng: &mut Rng) -> Edition {
-    rng.pick(&Edition::ALL)
 }
 
 /// Changes version or kind.
 fn spoil_first(rng: &mut Rng, frame: &mut [u8]) {
-    let (version, kind) = (frame[0] & !KIND_BITS, frame[0] & KIND_BITS);
     frame[0] = match rng.below(4) {
         0 => rng.byte(),
-        1 => version | (1 + rng.below(9) as u8),
-        2 => rng.pick(&VERSIONS_OUTSIDE) << VERSION_AT | kind,
-        _ => rng.pick(&VERSIONS_OUTSIDE) << VERSION_AT | rng.below(32) as u8,
+        1 => frame[0] ^ (1 << (5 + rng.below(3))),
+        2 => 0x20 + 1 + rng.below(9) as u8,
+        _ => 0x20 + rng.pick(&KINDS_OUTSIDE),
     };
 }
 
-/// Gives the frame a kind outside 1 to 9, and a head that is right but for the kind or
-/// has the bit of a count too.
+/// Gives the frame a kind outside 1 to 9, and mostly a head that is right but for
+/// the kind.
 fn spoil_kind(rng: &mut Rng, frame: &mut [u8]) {
-    let version = match rng.below(8) {
-        0 => rng.pick(&VERSIONS_OUTSIDE),
-        _ => any_edition(rng).version(),
-    };
-    frame[0] = version << VERSION_AT | rng.pick(&KINDS_OUTSIDE);
-    frame[1] = rng.pick(&[VERDICT, 0, VERDICT | KEPT, KEPT]);
-}
-
-/// Makes a frame of version 2 of one of version 1, and the other way round, and leaves
-/// its hashes as they are.
-fn other_version(frame: &mut [u8]) {
-    frame[0] ^= 3 << VERSION_AT;
+    frame[0] = 0x20 + rng.pick(&KINDS_OUTSIDE);
+    frame[1] = rng.pick(&[VERDICT, VERDICT, 0, VERDICT | KEPT, KEPT]);
 }
 
 /// Changes the verdict, the bit of a count or a zero bit.
@@ -337,8 +234,8 @@ fn spoil_length(rng: &mut Rng, frame: &mut Vec<u8>) {
 /// Changes the hash count of kind 2 or of kind 8, if the frame has its byte.
 fn spoil_hash_count(rng: &mut Rng, frame: &mut [u8]) {
     let (at, counts): (usize, &[u8]) = match frame[0] & 31 {
-        2 => (32, &[0x00, 0x10, 0x50, 0x60, 0x80, 0x90, 0xF0, 0x81, 0x04]),
-        _ => (6, &[1, 5, 6, 8, 9, 16, 255]),
+        2 => (32, &[0x00, 0x10, 0x90, 0xF0, 0x81, 0x04]),
+        _ => (6, &[1, 8, 9, 16, 255]),
     };
     if let Some(byte) = frame.get_mut(at) {
         *byte = rng.pick(counts);
@@ -357,29 +254,10 @@ fn say_length(frame: &mut [u8]) {
 ///
 /// Where the kind has more than 5 bits or the body's length more than 16.
 pub fn frame(kind: u8, second: u8, body: &[u8]) -> Vec<u8> {
-    frame_in(1, kind, second, body)
-}
-
-/// A frame of this version.
-///
-/// # Panics
-///
-/// Where the version has more than 3 bits, the kind more than 5 or the body's length
-/// more than 16.
-pub fn frame_in(version: u8, kind: u8, second: u8, body: &[u8]) -> Vec<u8> {
-    assert!(version < 8 && kind < 32);
+    assert!(kind < 32);
     let length = u16::try_from(body.len()).expect("a body is no longer");
-    let head = [version << VERSION_AT | kind, second];
-    [&head[..], &length.to_be_bytes(), body].concat()
-}
-
-/// The hash of the second edition with this number. The first 20 bytes of numbers from
-/// 6 on are those of an earlier one.
-fn hash(index: usize) -> Hash {
-    let mut hash = [0; SHORT + MORE];
-    hash[..SHORT].copy_from_slice(&near::<SHORT>(index % 6));
-    hash[SHORT..].copy_from_slice(&near::<MORE>(index));
-    hash
+    let head = [&[0x20 + kind, second][..], &length.to_be_bytes()].concat();
+    [&head, body].concat()
 }
 
 /// Bytes for each number, which differ in one byte or two from those of any
@@ -431,6 +309,6 @@ pub fn count(rng: &mut Rng) -> CountBytes {
     CountBytes { kept, number }
 }
 
-fn hash_count(edition: Edition, hashes: &[u8]) -> u8 {
-    (hashes.len() / edition.hash_bytes()) as u8
+fn hash_count(hashes: &[u8]) -> u8 {
+    (hashes.len() / HASH_BYTES) as u8
 }

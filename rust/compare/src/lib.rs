@@ -10,7 +10,7 @@
 //! | [`frames`] | request frames at random, right and wrong ones |
 //! | [`starts`] | starts at random, right and wrong ones |
 //! | [`tallies`] | tallies at random, right and wrong ones |
-//! | [`tables`] | damaged tables, old ones, some with rights without a hash or with long ones, and buffers for replies, listings and reports |
+//! | [`tables`] | damaged tables, old ones, some with rights without a hash, and buffers for replies, listings and reports |
 //! | [`damage`] | tables damaged in every way that a salvage is for |
 //! | [`pipeline`] | many commands on their way at once |
 //! | [`alongside`] | commands about a table, and what the reference makes of them |
@@ -32,7 +32,6 @@
 //! | [`both`] | one call after another, on a table chosen by a test |
 //! | [`pair`] | two cards that are sent the same frames from different starts |
 //! | [`outcome`] | which outcomes occurred, and which must occur |
-//! | [`editions`] | what came of requests of both editions about records of both |
 //! | [`steps`] | how calls changed the tally, and which of its numbers differed |
 //! | [`refusals`] | which calls gave a number, and what else was wrong with them |
 //! | [`found`] | what salvages found, and what must have been found |
@@ -49,7 +48,6 @@ pub mod calls;
 pub mod card;
 pub mod damage;
 pub mod device;
-pub mod editions;
 pub mod found;
 pub mod frames;
 pub mod mended;

@@ -1,12 +1,12 @@
 //! Which outcomes calls had, and which they must have had.
 
-use crate::frames::frame_in;
+use crate::frames::frame as request_frame;
 use crate::tallies::tally_of;
 use driver::{Call, Read, Same};
 use reference::number::DONE;
 use reference::slot::SlotBytes;
-use reference::{read_request, slot, table, Count, Edition, Kind, Place, ReadRequest};
-use reference::{HANDLE_BYTES, MAX_PAYLOAD, REPLY_ROOM};
+use reference::{read_request, slot, table, Count, Kind, Place, ReadRequest};
+use reference::{HANDLE_BYTES, HASH_BYTES, MAX_PAYLOAD, REPLY_ROOM};
 use std::cmp::Ordering;
 use std::collections::BTreeMap;
 use std::fmt;
@@ -62,8 +62,6 @@ pub enum Outcome {
     Refused(u16),
     /// The call gave a reply of this kind, 0 to 31, with this status.
     Replied {
-        /// The edition of the request; `None` for a version that there is not.
-        asked: Option<Edition>,
         /// The kind in the reply.
         kind: u8,
         /// The status in the reply.
@@ -93,7 +91,6 @@ impl Outcome {
             (_, status) => (status, Counted::Nothing),
         };
         Outcome::Replied {
-            asked: Edition::of_version(frame[0] >> 5),
             kind,
             status,
             counted,
@@ -106,17 +103,10 @@ impl fmt::Display for Outcome {
         match self {
             Outcome::Refused(number) => write!(f, "{number}"),
             Outcome::Replied {
-                asked,
                 kind,
                 status,
                 counted,
-            } => {
-                match asked.map(Edition::version) {
-                    Some(version) => write!(f, "version {version} ")?,
-                    None => write!(f, "another version, ")?,
-                }
-                write!(f, "kind {kind} status {status}, {counted}")
-            }
+            } => write!(f, "kind {kind} status {status}, {counted}"),
         }
     }
 }
@@ -276,12 +266,11 @@ fn status_with_a_hash(table: &[u8], frame: &[u8]) -> Option<u8> {
     if body.len() <= HASH_BYTE + 1 || body[HASH_BYTE] >> 4 != 0 {
         return None;
     }
-    let version = frame[0] >> 5;
-    let edition = Edition::of_version(version).unwrap_or_default();
     body[HASH_BYTE] |= 0x10;
-    body.splice(HASH_BYTE + 1..HASH_BYTE + 1, vec![1; edition.hash_bytes()]);
+    body.splice(HASH_BYTE + 1..HASH_BYTE + 1, [1; HASH_BYTES]);
     u16::try_from(body.len()).ok()?;
-    let hashed = frame_in(version, 2, frame[1], &body);
+    let mut hashed = request_frame(2, frame[1], &body);
+    hashed[0] = frame[0];
     let (mut table, mut tally) = (table.to_vec(), tally_of(table).into());
     let mut reply = [0; REPLY_ROOM];
     let number = reference::call(&mut table, &mut tally, 0, &hashed, &mut reply);
@@ -366,8 +355,7 @@ fn statuses(kind: u8) -> &'static [u8] {
     match kind {
         1 => &[0, 1, 2, 5, 7],
         2 => &[0, 1, 2, 4, 6, 7],
-        3 => &[0, 1, 2, 4, 5, 6, 10],
-        4 => &[0, 1, 2, 4, 5, 6],
+        3 | 4 => &[0, 1, 2, 4, 5, 6],
         5 => &[0, 1, 2, 4, 6, 9],
         6 | 7 => &[0, 1, 2, 4, 6],
         8 => &[0, 2],
@@ -385,23 +373,21 @@ fn counts(kind: u8, status: u8) -> &'static [Counted] {
     }
 }
 
-/// Every outcome that can occur: each number, and in each edition each kind with the
-/// statuses and counts that it can have. A version that there is not is status 2.
+/// Every outcome that can occur: each number, and each kind with the statuses
+/// and counts that it can have.
 pub fn that_can_occur() -> Vec<Outcome> {
     let mut outcomes: Vec<Outcome> = (101..=106).map(Outcome::Refused).collect();
     for kind in 0..32 {
-        let replied = |asked, status, counted| Outcome::Replied {
-            asked,
-            kind,
-            status,
-            counted,
-        };
-        outcomes.push(replied(None, 2, Counted::Nothing));
-        for asked in Edition::ALL.map(Some) {
-            for &status in statuses(kind) {
-                let counts = counts(kind, status).iter();
-                outcomes.extend(counts.map(|&counted| replied(asked, status, counted)));
-            }
+        for &status in statuses(kind) {
+            outcomes.extend(
+                counts(kind, status)
+                    .iter()
+                    .map(|&counted| Outcome::Replied {
+                        kind,
+                        status,
+                        counted,
+                    }),
+            );
         }
     }
     outcomes

@@ -122,7 +122,7 @@ impl Pair {
 
 /// Whether a call gave the reply of a successful handle list query.
 fn gives_a_list(call: &Call) -> bool {
-    call.number == 0 && (call.reply[0] & 31, call.reply[1]) == (8, 0)
+    call.number == 0 && call.reply[..2] == [0x28, 0]
 }
 
 /// Slots or handles in an order of their own.

@@ -1,6 +1,6 @@
 //! Frames by which the rights of a table are installed, lent and returned, with counts.
 
-use crate::frames::{any_edition, frame_in, Asker};
+use crate::frames::{frame, Asker};
 use random::Rng;
 use reference::slot::SlotBytes;
 use reference::Count::{self, Kept, NotKept};
@@ -21,9 +21,9 @@ pub fn next_frame(rng: &mut Rng, asker: &Asker, table: &[u8]) -> Vec<u8> {
     let record = rng.pick(&records);
     let mut frame = match (slot::place(record), rng.below(8)) {
         (Place::Disabled, _) | (_, 0) => returning(rng, record),
-        (Place::Reserved, 1) => in_any(rng, 7, NO_COUNT, &slot::handle(record)),
+        (Place::Reserved, 1) => frame(7, NO_COUNT, &slot::handle(record)),
         (Place::Reserved, _) => installation(rng, asker, record),
-        (_, 1) => in_any(rng, 6, NO_COUNT, &slot::handle(record)),
+        (_, 1) => frame(6, NO_COUNT, &slot::handle(record)),
         _ => lending(rng, asker, &records, record),
     };
     if rng.one_in(8) {
@@ -33,9 +33,8 @@ pub fn next_frame(rng: &mut Rng, asker: &Asker, table: &[u8]) -> Vec<u8> {
 }
 
 /// A frame for a card with this table. One in four is about one of its rights: one that
-/// is lent is returned, and one for use lent or, one time in three, returned; now and then
-/// it is read, removed or lent, whatever its place. All others are such as `asker` makes
-/// for every card.
+/// is lent is returned, and one for use lent or, one time in three, returned. All others
+/// are such as `asker` makes for every card.
 pub fn frame_or_loan(rng: &mut Rng, asker: &Asker, table: &[u8]) -> Vec<u8> {
     let records = records(table);
     let rights = records.iter().copied();
@@ -48,23 +47,8 @@ pub fn frame_or_loan(rng: &mut Rng, asker: &Asker, table: &[u8]) -> Vec<u8> {
     let right = rng.pick(&rights);
     match slot::place(right) {
         Place::Enabled if !rng.one_in(3) => lending(rng, asker, &records, right),
-        _ => match rng.below(8) {
-            0 => lending(rng, asker, &records, right),
-            1 => in_any_of(rng, &[6, 9], &slot::handle(right)),
-            _ => returning(rng, right),
-        },
+        _ => returning(rng, right),
     }
-}
-
-/// A frame of either edition, where it makes no difference.
-fn in_any(rng: &mut Rng, kind: u8, second: u8, body: &[u8]) -> Vec<u8> {
-    frame_in(any_edition(rng).version(), kind, second, body)
-}
-
-/// A frame of one of these kinds, in either edition.
-fn in_any_of(rng: &mut Rng, kinds: &[u8], body: &[u8]) -> Vec<u8> {
-    let kind = rng.pick(kinds);
-    in_any(rng, kind, NO_COUNT, body)
 }
 
 /// The slots of a table that are not empty.
@@ -84,15 +68,13 @@ fn installation(rng: &mut Rng, asker: &Asker, record: &SlotBytes) -> Vec<u8> {
         1 => u16::MAX,
         _ => rng.word(),
     };
-    let edition = any_edition(rng);
-    let hash = asker.so_many_hashes(rng, edition, 1);
+    let hash = &asker.some_hashes(rng)[..20];
     let number = count.to_be_bytes();
-    let body = [&handle[..], &key, &number, &[0x10], &hash, &[rng.byte()]].concat();
-    frame_in(edition.version(), 2, KEPT, &body)
+    let body = [&handle[..], &key, &number, &[0x10], hash, &[rng.byte()]].concat();
+    frame(2, KEPT, &body)
 }
 
-/// Lends a right, by kind 3 or 4, mostly under a handle that no record has and in the
-/// edition of its hashes.
+/// Lends a right, by kind 3 or 4, mostly under a handle that no record has.
 fn lending(rng: &mut Rng, asker: &Asker, records: &[&SlotBytes], record: &SlotBytes) -> Vec<u8> {
     let mut handles: Vec<Handle> = asker.handles().to_vec();
     if !rng.one_in(8) {
@@ -100,16 +82,7 @@ fn lending(rng: &mut Rng, asker: &Asker, records: &[&SlotBytes], record: &SlotBy
     }
     let new_handle = rng.pick(&handles);
     let handles = [slot::handle(record), new_handle].concat();
-    let edition = match rng.below(4) {
-        0 => any_edition(rng),
-        _ => slot::edition(record),
-    };
-    frame_in(
-        edition.version(),
-        rng.pick(&[3, 3, 4, 4, 4]),
-        NO_COUNT,
-        &handles,
-    )
+    frame(rng.pick(&[3, 4, 4]), NO_COUNT, &handles)
 }
 
 /// Returns a record, mostly with a count that does not raise its own: four in twelve
@@ -124,12 +97,7 @@ fn returning(rng: &mut Rng, record: &SlotBytes) -> Vec<u8> {
     };
     let second = if sent.is_kept() { KEPT } else { NO_COUNT };
     let number = sent.number().to_be_bytes();
-    in_any(
-        rng,
-        5,
-        second,
-        &[&slot::handle(record)[..], &number].concat(),
-    )
+    frame(5, second, &[&slot::handle(record)[..], &number].concat())
 }
 
 /// None for a kept count, and a kept one for none.

@@ -1,9 +1,9 @@
 //! Damaged tables, tables from before a count had its bit, tables with rights
 //! without a hash, and buffers for replies, listings and reports.
 
-use crate::frames::{any_edition, count, payload_length, Asker};
+use crate::frames::{count, payload_length, Asker};
 use random::Rng;
-use reference::{Handle, MAX_SLOTS, REPLY_ROOM, SLOT_BYTES};
+use reference::{Handle, HASH_BYTES, MAX_SLOTS, REPLY_ROOM, SLOT_BYTES};
 
 /// Room for the longest listing: a header of 31 bytes, and 15 lines of 25.
 const LISTING_ROOM: usize = 406;
@@ -11,11 +11,8 @@ const LISTING_ROOM: usize = 406;
 /// The bit of a slot's first byte that says that a count is kept.
 const KEPT: u8 = 0x02;
 
-/// The mark beside it, of hashes of 32 bytes.
-const LONG: u8 = 0x01;
-
-/// The bits of a slot's first byte that are its hash count.
-const HASH_COUNT: u8 = 0x3C;
+/// The spare bit beside it.
+const SPARE: u8 = 0x01;
 
 /// A table of empty slots.
 pub fn blank(slots: usize) -> Vec<u8> {
@@ -23,8 +20,8 @@ pub fn blank(slots: usize) -> Vec<u8> {
 }
 
 /// A well-formed table as no calls on a blank one leave it: two rights in three
-/// have no hash (PROFILE 2.9), and the others have hashes of either edition. The
-/// handles are some of those that `asker` asks for.
+/// have no hash (PROFILE 2.9). The handles are some of those that `asker` asks
+/// for.
 pub fn with_unhashed(rng: &mut Rng, asker: &Asker, slots: usize) -> Vec<u8> {
     let mut handles = asker.handles().to_vec();
     let first = rng.below(handles.len());
@@ -60,14 +57,13 @@ pub fn record(rng: &mut Rng, asker: &Asker, place: u8, handle: &Handle) -> Vec<u
 
 /// Puts a right of this length into a slot: key, count, hashes or none, payload.
 fn put_right(rng: &mut Rng, asker: &Asker, slot: &mut [u8], length: usize) {
-    let (count, edition) = (count(rng), any_edition(rng));
+    let count = count(rng);
     let hashes = match rng.below(3) {
-        0 => asker.some_hashes(rng, edition),
+        0 => asker.some_hashes(rng),
         _ => Vec::new(),
     };
-    slot[0] |= ((hashes.len() / edition.hash_bytes()) as u8) << 2;
+    slot[0] |= ((hashes.len() / HASH_BYTES) as u8) << 2;
     slot[0] |= if count.kept { KEPT } else { 0 };
-    slot[0] |= u8::from(edition.is_long() && !hashes.is_empty());
     slot[11..27].copy_from_slice(&rng.bytes(16));
     slot[27..29].copy_from_slice(&count.number.to_be_bytes());
     slot[31..31 + hashes.len()].copy_from_slice(&hashes);
@@ -78,46 +74,23 @@ fn put_right(rng: &mut Rng, asker: &Asker, slot: &mut [u8], length: usize) {
 /// changed bit of a payload, for one.
 pub fn damaged(rng: &mut Rng, table: &[u8]) -> Vec<u8> {
     let mut table = table.to_vec();
-    match rng.below(8) {
-        0..2 => wrong_length(rng, &mut table),
-        2 => two_alike(rng, &mut table),
-        3 => another_count(rng, &mut table),
-        4 => {
-            let at = rng.below(table.len() / SLOT_BYTES) * SLOT_BYTES;
-            another_mark(rng, &mut table[at]);
-        }
+    match rng.below(5) {
+        0 => wrong_length(rng, &mut table),
+        1 => two_alike(rng, &mut table),
+        2 => another_count(rng, &mut table),
         _ => one_byte(rng, &mut table),
     }
     table
 }
 
 /// The table as it was before a count had its bit: the same records, without the
-/// bits. One that is used up keeps none, then. A record of the second edition, of which
-/// there was none then, has as many hashes of 20 bytes.
+/// bits. One that is used up keeps none, then.
 pub fn before_turning(table: &[u8]) -> Vec<u8> {
     let mut table = table.to_vec();
     for slot in table.chunks_mut(SLOT_BYTES) {
-        slot[0] &= !(KEPT | LONG);
-        let used = 31 + 20 * usize::from((slot[0] & HASH_COUNT) >> 2);
-        slot[used..191].fill(0);
+        slot[0] &= !KEPT;
     }
     table
-}
-
-/// Sets the mark of a slot, or takes it away: with the hash count as it is, or with
-/// none, with one that goes with the mark, or with a greater one.
-pub fn another_mark(rng: &mut Rng, byte_0: &mut u8) {
-    let hashes = match rng.below(6) {
-        0..2 => {
-            *byte_0 ^= LONG;
-            return;
-        }
-        2 => 0,
-        3 => 6 + rng.below(10),
-        4 => 6,
-        _ => 1 + rng.below(5),
-    };
-    *byte_0 = *byte_0 & !HASH_COUNT | (hashes as u8) << 2 | LONG;
 }
 
 /// Gives the table another length, and fills it up with zeros. The longest
@@ -148,11 +121,11 @@ fn two_alike(rng: &mut Rng, table: &mut [u8]) {
 }
 
 /// Changes the count of a slot, whatever its place: the bit, the number or both,
-/// or the mark beside the bit.
+/// or the spare bit beside the bit.
 fn another_count(rng: &mut Rng, table: &mut [u8]) {
     let at = rng.below(table.len() / SLOT_BYTES) * SLOT_BYTES;
     let number: u16 = rng.pick(&[0, 1, 0xFF, 0x100, 0xFFFF]);
-    let bits = rng.pick(&[0, 0, KEPT, KEPT, KEPT, LONG, KEPT | LONG]);
+    let bits = rng.pick(&[0, 0, KEPT, KEPT, KEPT, SPARE, KEPT | SPARE]);
     table[at] ^= bits;
     if bits == 0 || rng.one_in(2) {
         table[at + 27..at + 29].copy_from_slice(&number.to_be_bytes());

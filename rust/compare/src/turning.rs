@@ -24,9 +24,6 @@ const TURNINGS: usize = 30;
 pub enum Turning {
     /// It gave this number, and changed nothing.
     Refused(u16),
-    /// It gave 103, and some slot had the mark of hashes of 32 bytes, which there were
-    /// not before.
-    RefusedMarked,
     /// It gave 0, and there was nothing to change.
     NothingToTurn,
     /// It gave 0, and set a bit.
@@ -37,10 +34,9 @@ pub enum Turning {
 
 impl Turning {
     /// All that can come of a turning.
-    pub const ALL: [Turning; 6] = [
+    pub const ALL: [Turning; 5] = [
         Turning::Refused(102),
         Turning::Refused(103),
-        Turning::RefusedMarked,
         Turning::NothingToTurn,
         Turning::Turned,
         Turning::TurnedUnhashed,
@@ -51,7 +47,6 @@ impl Turning {
             (0, true) => Turning::NothingToTurn,
             (0, false) if turned_unhashed(before, &given.table) => Turning::TurnedUnhashed,
             (0, false) => Turning::Turned,
-            (103, _) if table::slots(before).iter().any(slot::long) => Turning::RefusedMarked,
             (number, _) => Turning::Refused(number),
         }
     }
@@ -67,7 +62,6 @@ impl fmt::Display for Turning {
     fn fmt(&self, f: &mut fmt::Formatter<'_>) -> fmt::Result {
         match self {
             Turning::Refused(number) => write!(f, "turning: {number}"),
-            Turning::RefusedMarked => f.write_str("turning: 103, a slot with the mark"),
             Turning::NothingToTurn => f.write_str("turning: 0, nothing to turn"),
             Turning::Turned => f.write_str("turning: 0"),
             Turning::TurnedUnhashed => f.write_str("turning: 0, a right without a hash turned"),

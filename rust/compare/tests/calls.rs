@@ -2,11 +2,9 @@
 //! the tally that the reference gives, every table agrees with its history, in which
 //! no count rises, and every tally with its table. So they do after a salvage and after a turning, with a
 //! history that starts from the table left. On cards that hold rights without a hash,
-//! all that can come of them does, and no other one comes. All that can come of requests
-//! of both editions does, about records of both.
+//! all that can come of them does, and no other one comes.
 
 use compare::calls::compare;
-use compare::editions::{Answered, Editions};
 use compare::mended::Began;
 use compare::outcome::assert_all_occurred;
 use compare::outcome::{searches_that_can_occur, that_can_occur, Unhashed};
@@ -29,8 +27,6 @@ fn random_calls_agree_with_the_reference_and_with_their_history() {
     assert_all_occurred(&seen.returns, Returned::that_can_occur());
     assert_all_occurred(&seen.searches, searches_that_can_occur());
     assert_all_occurred(&seen.unhashed, Unhashed::that_can_occur());
-    assert_all_occurred(&seen.editions, Editions::that_can_occur());
-    assert_all_occurred(&seen.versions, Answered::that_can_occur());
     assert_all_occurred(&seen.precedences, Precedence::that_can_occur());
     assert_all_occurred(&seen.regardless, Regardless::that_can_occur());
     assert_all_occurred(&seen.differences, Difference::that_can_occur());

@@ -1,12 +1,10 @@
 //! The device's end at random: the archive writes the requests and reads the
 //! replies that the reference writes and reads, and refuses what it refuses.
 
-use compare::device::{accepted, compare_readers, compare_writers, written_with_hash_bytes};
-use compare::device::{Handed, Told, WithoutHash, VERSIONS_OUTSIDE};
-use compare::frames::frame_in;
+use compare::device::{accepted, compare_readers, compare_writers, Handed, Told, WithoutHash};
+use compare::frames::frame;
 use compare::outcome::{assert_all_occurred, Counted};
 use random::{setting, Rng};
-use reference::Edition;
 use std::collections::BTreeSet;
 
 /// The calls made unless `COMPARE_CALLS` says how many.
@@ -19,28 +17,21 @@ fn calls() -> u64 {
 #[test]
 fn requests_are_written_as_the_reference_writes_them() {
     let seen = compare_writers(Rng::announced("requests written"), calls());
-    assert_all_occurred(&seen.without_hash, WithoutHash::that_can_occur());
-    let (counts, outside) = (seen.counts, seen.outside);
-    for ((number, edition, kind, handed), count) in &counts {
-        println!("{count:>9}  {number} {edition:?}, kind {kind}, {handed:?}");
+    assert_all_occurred(&seen.without_hash, WithoutHash::ALL.to_vec());
+    let counts = seen.counts;
+    for ((number, kind, handed), count) in &counts {
+        println!("{count:>9}  {number} kind {kind}, {handed:?}");
     }
-    let kinds = || (1..=9).chain([0, 10, 31, 33, 255]);
-    let expected = Edition::ALL
-        .into_iter()
-        .flat_map(|edition| kinds().flat_map(move |kind| numbers(edition, kind)));
+    let outside = [0, 10, 31, 33, 255];
+    let expected = (1..=9).chain(outside).flat_map(numbers);
     let seen: BTreeSet<_> = counts.keys().copied().collect();
     assert_eq!(seen, expected.collect(), "all that can occur, and no more");
-    let expected = VERSIONS_OUTSIDE
-        .into_iter()
-        .flat_map(|version| kinds().map(move |kind| (202, version, kind)));
-    let seen: BTreeSet<_> = outside.keys().copied().collect();
-    assert_eq!(seen, expected.collect(), "in no other version");
 }
 
-/// The numbers that the writer can give for a kind, in either edition, each with what
-/// it can be handed as a count. 202 comes with every count, since another field may be the
+/// The numbers that the writer can give for a kind, each with what it can be
+/// handed as a count. 202 comes with every count, since another field may be the
 /// one that is refused.
-fn numbers(edition: Edition, kind: u8) -> Vec<(u16, Edition, u8, Handed)> {
+fn numbers(kind: u8) -> Vec<(u16, u8, Handed)> {
     let taken: &[Counted] = match kind {
         2 | 5 => &Counted::COUNTS,
         1..=9 => &[Counted::NotKept],
@@ -52,28 +43,9 @@ fn numbers(edition: Edition, kind: u8) -> Vec<(u16, Edition, u8, Handed)> {
         .into_iter()
         .chain([Handed::NumberAlone, Handed::NoBit]);
     taken
-        .flat_map(|handed| [(0, edition, kind, handed), (201, edition, kind, handed)])
-        .chain(refused.map(|handed| (202, edition, kind, handed)))
+        .flat_map(|handed| [(0, kind, handed), (201, kind, handed)])
+        .chain(refused.map(|handed| (202, kind, handed)))
         .collect()
-}
-
-/// Of every length up to 330, those bytes are written that are whole hashes of the
-/// version, up to 160 bytes, and in no other version any.
-#[test]
-fn hash_bytes_are_written_that_are_whole_hashes() {
-    let written = written_with_hash_bytes(Rng::announced("hash bytes"));
-    let mut expected = Vec::new();
-    for (version, length) in [(1, 20), (2, 32)] {
-        for kind in 1..=9 {
-            let counts = match kind {
-                2 => 1..=160 / length,
-                8 => 0..=160 / length,
-                _ => 0..=0,
-            };
-            expected.extend(counts.map(|count| (version, kind, count * length)));
-        }
-    }
-    assert_eq!(written, expected);
 }
 
 #[test]
@@ -83,16 +55,10 @@ fn replies_are_read_as_the_reference_reads_them() {
         println!("{count:>9}  {told:?}");
     }
     let mut expected = BTreeSet::from([Told::NOTHING]);
-    for version in [1, 2] {
-        for kind in 0..32 {
-            let refusals = [1, 2, 3, 4, 5, 6, 7, 9, 10].map(|status| Told {
-                version,
-                ..told(kind, status, Counted::Nothing, false)
-            });
-            expected.extend(refusals);
-            let successes = successes(kind).into_iter();
-            expected.extend(successes.map(|told| Told { version, ..told }));
-        }
+    for kind in 0..32 {
+        let refusals = [1, 2, 3, 4, 5, 6, 7, 9];
+        expected.extend(refusals.map(|status| told(kind, status, Counted::Nothing, false)));
+        expected.extend(successes(kind));
     }
     let seen: BTreeSet<_> = counts.keys().copied().collect();
     assert_eq!(seen, expected, "all that can occur, and no more");
@@ -101,7 +67,6 @@ fn replies_are_read_as_the_reference_reads_them() {
 fn told(kind: u8, status: u8, counted: Counted, hashed: bool) -> Told {
     Told {
         number: 0,
-        version: 1,
         kind,
         status,
         counted,
@@ -123,7 +88,7 @@ fn successes(kind: u8) -> Vec<Told> {
 }
 
 /// Asserts that of these bodies, with every kind that they are for and every
-/// second byte, those are accepted that may be, in the versions that there are.
+/// second byte, those are accepted that may be.
 fn assert_accepted(
     rng: Rng,
     bodies: impl Fn(u8) -> Vec<Vec<u8>>,
@@ -131,11 +96,11 @@ fn assert_accepted(
 ) {
     let mut every = Vec::new();
     let mut expected = Vec::new();
-    for (version, kind) in (0..4).flat_map(|version| (0..32).map(move |kind| (version, kind))) {
+    for kind in 0..32 {
         for body in bodies(kind) {
             for second in 0..=255 {
-                let reply = frame_in(version, kind, second, &body);
-                if (1..=2).contains(&version) && may_be(kind, second, &body) {
+                let reply = frame(kind, second, &body);
+                if may_be(kind, second, &body) {
                     expected.push(reply.clone());
                 }
                 every.push(reply);
@@ -145,8 +110,8 @@ fn assert_accepted(
     assert!(accepted(rng, &every) == expected);
 }
 
-/// The statuses 1 to 7, 9 and 10 have no body and come with any kind, and so does 0
-/// with the kinds that give nothing. 8, and every number over 10, is refused with
+/// The statuses 1 to 7 and 9 have no body and come with any kind, and so does 0
+/// with the kinds that give nothing. 8, and every number over 9, is refused with
 /// 203 whatever the kind; with the bit of a count these are the second bytes from
 /// 128 on.
 #[test]
@@ -156,7 +121,7 @@ fn replies_without_a_body_are_accepted_by_kind_and_status() {
         |_| vec![Vec::new()],
         |kind, second, _| match second {
             0 => [1, 2, 5, 6, 7].contains(&kind),
-            _ => second <= 7 || second == 9 || second == 10,
+            _ => second <= 7 || second == 9,
         },
     );
 }
@@ -186,28 +151,4 @@ fn replies_with_a_body_are_accepted_by_kind_and_bit() {
             _ => false,
         },
     );
-}
-
-/// Rights of every hash count, with 1 to 4,096 payload bytes after hashes of 20 bytes or
-/// of 32, and with one byte less or more than that. Each is accepted in the version of
-/// its hashes; in the other, it is where its bytes can be read so.
-#[test]
-fn rights_are_accepted_by_the_hash_length_of_their_version() {
-    let (mut every, mut expected) = (Vec::new(), Vec::new());
-    for (count, length) in (0..16).flat_map(|count| [(count, 20), (count, 32)]) {
-        for payload in [0, 1, 2, 95, 96, 97, 4095, 4096, 4097] {
-            let rest = length * usize::from(count) + payload;
-            let body = [&[7; 16][..], &[0, 0, count << 4], &vec![5; rest]].concat();
-            for (version, length, most) in [(1, 20, 8), (2, 32, 5)] {
-                let reply = frame_in(version, 3, 0, &body);
-                let payload = rest.saturating_sub(length * usize::from(count));
-                if count <= most && (1..=4096).contains(&payload) {
-                    expected.push(reply.clone());
-                }
-                every.push(reply);
-            }
-        }
-    }
-    let rng = Rng::announced("rights of both editions");
-    assert!(accepted(rng, &every) == expected);
 }

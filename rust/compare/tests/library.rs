@@ -1,7 +1,7 @@
 //! The crate `cavernlull` at random: its requests, replies, tables, tallies and
 //! listings are those of the reference.
 
-use cavernlull::{AssetHash, Card, Edition, Handle, Key, Kind, Reply, Request, Right, Status};
+use cavernlull::{AssetHash, Card, Handle, Key, Kind, Reply, Request, Right, Status};
 use cavernlull::{CallError, Error, SalvageError, Tally, TallyError, Totals, TurnError};
 use cavernlull::{Verdict, WriteError};
 use compare::damage::{self, Damage};
@@ -11,29 +11,20 @@ use compare::starts::{inside, start};
 use compare::tables::{before_turning, blank, damaged, report_buffer, with_unhashed};
 use compare::tallies::{tally_of, wrong};
 use random::Rng;
-use reference::{slot, table, Count, ReadRequest, HANDLE_BYTES, MAX_SLOTS, REPLY_ROOM};
+use reference::{Count, Fields, ReadRequest, HANDLE_BYTES, HASH_BYTES, MAX_SLOTS, REPLY_ROOM};
 use std::collections::BTreeSet;
 use std::mem;
 
 /// The requests made on each of the tables, which have 1 to 15 slots.
-const REQUESTS: usize = 500;
+const REQUESTS: usize = 200;
 
-/// The kinds and statuses that a typed request can have, in both editions: those of
-/// any frame, without the 2 for a field that the types cannot express.
-const CAN_OCCUR: usize = 2 * (5 + 5 + 6 + 5 + 5 + 4 + 4 + 1 + 3);
+/// The kinds and statuses that a typed request can have: those of any frame,
+/// without the 2 for a field that the types cannot express.
+const CAN_OCCUR: usize = 5 + 5 + 5 + 5 + 5 + 4 + 4 + 1 + 3;
 
-/// An edition as the library has it.
-fn edition(edition: reference::Edition) -> Edition {
-    Edition::from_version(edition.version()).expect("both have both")
-}
-
-/// The hashes of an edition that lie one after another in these bytes.
-fn hashes(of: reference::Edition, bytes: &[u8]) -> Vec<AssetHash> {
-    let hash = |bytes: &[u8]| match of {
-        reference::Edition::First => AssetHash::Short(bytes.try_into().expect("20 bytes")),
-        reference::Edition::Second => AssetHash::Long(bytes.try_into().expect("32 bytes")),
-    };
-    bytes.chunks(of.hash_bytes()).map(hash).collect()
+fn hashes(bytes: &[u8]) -> Vec<AssetHash> {
+    let hashes = bytes.as_chunks::<HASH_BYTES>().0;
+    hashes.iter().copied().map(AssetHash).collect()
 }
 
 /// A request that the reference has read.
@@ -48,12 +39,7 @@ fn request(read: &reference::Request<'_>) -> Request {
         },
         reference::Kind::RightsInstallation => Request::RightsInstallation {
             handle,
-            right: Right {
-                key: Key(fields.key),
-                count: kept(fields.count),
-                hashes: hashes(read.edition, fields.hashes),
-                payload: fields.payload.to_vec(),
-            },
+            right: right(fields.key, fields.count, fields.hashes, fields.payload),
         },
         reference::Kind::RightsRetrieval => Request::RightsRetrieval { handle, new_handle },
         reference::Kind::RekQuery => Request::RekQuery { handle, new_handle },
@@ -65,7 +51,7 @@ fn request(read: &reference::Request<'_>) -> Request {
         reference::Kind::HandleRemoval => Request::HandleRemoval { handle },
         reference::Kind::HandleListQuery => Request::HandleListQuery {
             limit: fields.limit,
-            hashes: hashes(read.edition, fields.hashes),
+            hashes: hashes(fields.hashes),
         },
         reference::Kind::RightsInformationQuery => Request::RightsInformationQuery { handle },
     }
@@ -79,11 +65,19 @@ fn kept(count: Count) -> Option<u16> {
     }
 }
 
+fn right(key: reference::Key, count: Count, bytes: &[u8], payload: &[u8]) -> Right {
+    Right {
+        key: Key(key),
+        count: kept(count),
+        hashes: hashes(bytes),
+        payload: payload.to_vec(),
+    }
+}
+
 /// The frame that the reference writes.
-fn frame(request: &reference::Request<'_>) -> Vec<u8> {
+fn frame(kind: reference::Kind, fields: &Fields<'_>) -> Vec<u8> {
     let mut out = vec![0; 4300];
-    let (version, kind) = (request.edition.version(), request.kind.number());
-    let number = reference::write_request(version, kind, &request.fields.into(), &mut out);
+    let number = reference::write_request(kind.number(), &(*fields).into(), &mut out);
     assert_eq!(number, 0);
     out.truncate(4 + usize::from(u16::from_be_bytes([out[2], out[3]])));
     out
@@ -95,12 +89,12 @@ fn reply(frame: &[u8]) -> Reply {
     let (kind, fields) = (read.kind, &read.fields);
     let status = Status::from_number(read.status.number()).expect("a status");
     match (status, kind) {
-        (Status::Success, 3) => Reply::Right(Right {
-            key: Key(fields.key),
-            count: kept(fields.count),
-            hashes: hashes(read.edition, fields.hashes),
-            payload: fields.payload.to_vec(),
-        }),
+        (Status::Success, 3) => Reply::Right(right(
+            fields.key,
+            fields.count,
+            fields.hashes,
+            fields.payload,
+        )),
         (Status::Success, 4) => Reply::Key(Key(fields.key)),
         (Status::Success, 8) => {
             let handles = fields.handles.as_chunks::<HANDLE_BYTES>().0;
@@ -178,9 +172,8 @@ impl Pair {
         };
     }
 
-    /// Has both answer the same request from the same start, and gives the first byte
-    /// of the reply, which has version and kind, and the status; `None` where the start
-    /// is not the number of a slot.
+    /// Has both answer the same request from the same start, and gives kind and
+    /// status; `None` where the start is not the number of a slot.
     fn ask(
         &mut self,
         start: u64,
@@ -188,9 +181,8 @@ impl Pair {
         verdict: Verdict,
     ) -> Option<(u8, Status)> {
         let request = request(read);
-        let asked = request.in_edition(edition(read.edition));
-        let mut sent = frame(read);
-        assert_eq!(asked.to_frame().as_ref(), Ok(&sent), "{request:?}");
+        let mut sent = frame(read.kind, &read.fields);
+        assert_eq!(request.to_frame().as_ref(), Ok(&sent), "{request:?}");
         verdict.put_into(&mut sent);
         let mut buffer = [0; REPLY_ROOM];
         let (table, tally) = (&mut self.table, &mut self.tally);
@@ -202,7 +194,7 @@ impl Pair {
             105 => Err(Error::Call(CallError::StartOutside)),
             number => panic!("{number} for {request:?}"),
         };
-        let given = self.card.call_from(start as usize, asked, verdict);
+        let given = self.card.call_from(start as usize, &request, verdict);
         assert_eq!(given, expected, "{request:?}");
         assert!(self.card.table() == self.table, "{request:?}");
         assert_eq!(numbers(self.card.tally()), self.tally.numbers());
@@ -210,7 +202,7 @@ impl Pair {
         assert_eq!(listing.as_bytes(), reference::listing(&self.table));
         let given = given.ok()?;
         self.told.extend(told(&given));
-        Some((buffer[0], given.status()))
+        Some((buffer[0] & 31, given.status()))
     }
 }
 
@@ -226,7 +218,7 @@ fn typed_requests_have_the_replies_that_the_reference_gives() {
                 pair.go_on(with_unhashed(&mut rng, &asker, slots));
             }
             let frame = frame_or_loan(&mut rng, &asker, &pair.table);
-            let verdict = match rng.below(8) {
+            let verdict = match rng.below(20) {
                 0 => Verdict::Failed,
                 _ => Verdict::Held,
             };
@@ -253,25 +245,19 @@ fn rights_without_a_hash_are_retrieved_and_not_installed() {
     let asker = Asker::new(MAX_SLOTS);
     let new_handle = Handle([0xEE; HANDLE_BYTES]);
     let mut written = BTreeSet::new();
-    let cards = (0..4).flat_map(|_| with_unhashed(&mut rng, &asker, MAX_SLOTS));
-    for slot in table::slots(&cards.collect::<Vec<u8>>()) {
-        let handle = Handle(slot::handle(slot));
+    for slot in reference::table::slots(&with_unhashed(&mut rng, &asker, MAX_SLOTS)) {
+        let handle = Handle(reference::slot::handle(slot));
         let retrieval = Request::RightsRetrieval { handle, new_handle };
-        let asked = retrieval.in_edition(edition(slot::edition(slot)));
         let mut card = Card::from(slot.to_vec());
-        if let Ok(Reply::Right(right)) = card.call(asked, Verdict::Held) {
-            assert_eq!(
-                right.hashes,
-                hashes(slot::edition(slot), slot::hashes(slot))
-            );
-            let of = right.edition();
+        if let Ok(Reply::Right(right)) = card.call(&retrieval, Verdict::Held) {
+            assert_eq!(right.hashes.len(), reference::slot::hash_count(slot));
+            let hashed = !right.hashes.is_empty();
             let frame = Request::RightsInstallation { handle, right }.to_frame();
             let number = frame.err().map_or(0, WriteError::number);
-            written.insert((of, number));
+            written.insert((hashed, number));
         }
     }
-    let [first, second] = Edition::ALL.map(|edition| (Some(edition), 0));
-    assert_eq!(written, BTreeSet::from([(None, 202), first, second]));
+    assert_eq!(written, BTreeSet::from([(false, 202), (true, 0)]));
 }
 
 /// Tables that requests filled, without the bits of their counts, some of them

@@ -85,7 +85,8 @@ fn tables_of_other_lengths_are_102_whatever_they_hold() {
     }
 }
 
-/// By the rules before the bit, both low bits of byte 0 are 0, whatever the count. Nothing is turned where a later slot is refused.
+/// By the rules before the bit, both low bits of byte 0 are spare, whatever the
+/// count. Nothing is turned where a later slot is refused.
 #[test]
 fn tables_that_were_not_well_formed_before_the_bit_are_103() {
     for low in [1, 2, 3] {

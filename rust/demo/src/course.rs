@@ -1,6 +1,6 @@
 //! The steps of the walk.
 
-use cavernlull::{AssetHash, Edition, Handle, Key, Request, Right, Status};
+use cavernlull::{AssetHash, Handle, Key, Request, Right, Status};
 
 /// A request, and what the card must answer.
 pub struct Step {
@@ -8,8 +8,6 @@ pub struct Step {
     pub title: &'static str,
     /// The request that does it.
     pub request: Request,
-    /// The edition that it is asked for in.
-    pub edition: Edition,
     /// Where the writer refuses the request: bytes that are sent all the same.
     pub bytes: Option<Vec<u8>>,
     /// A slot that a worn block damages before the request. The card is salvaged
@@ -36,15 +34,9 @@ const SECOND_LENT: Handle = Handle(*b"LENT-TO-44");
 /// The handle of a course that is to come.
 const NEXT: Handle = Handle(*b"FORGING-05");
 
-/// The handles of a course whose module has a longer hash, before it is lent and
-/// while it is lent.
-const LONG: Handle = Handle(*b"TURNING-09");
-const LONG_LENT: Handle = Handle(*b"LENT-TO-45");
-
 fn step(title: &'static str, request: Request, expected: Status, why: &'static str) -> Step {
     Step {
         title,
-        edition: request.edition(),
         request,
         bytes: None,
         worn: None,
@@ -53,12 +45,8 @@ fn step(title: &'static str, request: Request, expected: Status, why: &'static s
     }
 }
 
-/// The hash of the module that all these courses have but one.
-const MODULE: AssetHash = AssetHash::Short(*b"SHA-1 of one module ");
-
-/// The hash of the module that this one has: a longer one, which begins with the
-/// other.
-const LONG_MODULE: AssetHash = AssetHash::Long(*b"SHA-1 of one module and SHA-256 ");
+/// The hash of the module that all these courses have.
+const MODULE: AssetHash = AssetHash(*b"SHA-1 of one module ");
 
 /// The course itself: a key, how many uses, one module, and what the player
 /// reads.
@@ -71,16 +59,14 @@ fn right(uses: u16, text: &str) -> Right {
     }
 }
 
-/// A course comes onto the card, is lent and returned, and goes. One with a longer
-/// hash comes and goes beside another. One whose uses run out is lost with a worn
-/// block, and another is not.
+/// A course comes onto the card, is lent and returned, and goes. One whose uses
+/// run out is lost with a worn block, and another is not.
 pub fn steps() -> Vec<Step> {
     let mut steps = loading();
     steps.extend(loading_another());
     steps.extend(lending());
     steps.extend(using_up());
     steps.extend(removing());
-    steps.extend(both_editions());
     steps.extend(salvaging());
     steps
 }
@@ -198,47 +184,6 @@ fn removing() -> Vec<Step> {
             Status::Success,
             "The slot is empty again.",
         ),
-    ]
-}
-
-/// A course with a hash of 32 bytes stands beside one with a hash of 20. It is
-/// found by its hash and goes out whole, in the second edition alone; it is removed
-/// in either.
-fn both_editions() -> Vec<Step> {
-    let retrieval = Request::RightsRetrieval {
-        handle: LONG,
-        new_handle: LONG_LENT,
-    };
-    let installation = Request::RightsInstallation {
-        handle: LONG,
-        right: Right {
-            hashes: vec![LONG_MODULE],
-            ..right(10, "turning, module 9")
-        },
-    };
-    let once_more = step(
-        "It is asked for once more, in the other edition",
-        retrieval.clone(),
-        Status::Success,
-        "The whole course goes out, with its hash of 32 bytes. A program has both questions in one: Card::retrieve.",
-    );
-    vec![
-        step("Room for a course whose module has a longer hash", setup(LONG, 24), Status::Success,
-            "It is reserved as for any other course: nothing in a setup depends on hashes."),
-        step("It is installed", installation, Status::Success,
-            "The first byte is 42, for version 2: its hash has 32 bytes. It stands beside a course whose hash has 20."),
-        step("Which course has this module?", list(vec![LONG_MODULE]), Status::Success,
-            "It is found by its hash. The other course is not, though the hash of its module is the beginning of this one."),
-        step("Which course has the other module?", list(vec![MODULE]), Status::Success,
-            "And the other way round."),
-        step("The course is lent, whole", retrieval, Status::EditionNeeded,
-            "Its hash does not go into version 1. Nothing has changed: the course is for use, under its handle."),
-        Step {
-            edition: Edition::Second,
-            ..once_more
-        },
-        step("It is removed", remove(LONG_LENT), Status::Success,
-            "This is in version 1 again. All that sends no hashes is done in either version."),
     ]
 }
 

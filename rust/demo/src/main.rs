@@ -7,9 +7,7 @@
 mod course;
 mod screen;
 
-use cavernlull::{
-    AssetHash, Card, Edition, Handle, InEdition, Kind, Reply, Request, Rotation, Status,
-};
+use cavernlull::{Card, Handle, Kind, Reply, Request, Rotation, Status};
 use cavernlull::{TotallingError, Totals, REPLY_ROOM, SLOT_BYTES};
 use course::Step;
 use screen::Screen;
@@ -54,15 +52,14 @@ fn shown(
     step: &Step,
 ) -> Result<String, TotallingError> {
     let mut text = String::new();
-    let request = step.request.in_edition(step.edition);
-    let frame = match (request.to_frame(), &step.bytes) {
+    let frame = match (step.request.to_frame(), &step.bytes) {
         (Err(refused), Some(bytes)) => {
             text += &screen.refusal("writer", refused.number(), &refused);
             bytes.clone()
         }
         (written, _) => written?,
     };
-    text += &screen.frame("request", &frame, &asked(request, rotation.start()));
+    text += &screen.frame("request", &frame, &asked(&step.request, rotation.start()));
     if let Some(slot) = step.worn {
         text += &worn(screen, card, slot);
         text += &salvaged(screen, card, &frame);
@@ -119,27 +116,10 @@ fn how_many(number: usize, what: &str, more: &str) -> String {
     }
 }
 
-/// So many hashes, in words.
-fn hashed(hashes: &[AssetHash]) -> String {
-    match hashes.first().map(AssetHash::edition) {
-        Some(Edition::Second) => how_many(hashes.len(), "long hash", "long hashes"),
-        _ => how_many(hashes.len(), "hash", "hashes"),
-    }
-}
-
-/// The kind of a request, with its edition if that is not the first.
-fn kind_of(request: InEdition<'_>) -> String {
-    let kind = request.request().kind();
-    match request.edition() {
-        Edition::First => kind.to_string(),
-        second => format!("{kind}, {second}"),
-    }
-}
-
 /// A request in words, with the slot at which a setup begins to look.
-fn asked(request: InEdition<'_>, start: usize) -> String {
-    let kind = kind_of(request);
-    match request.request() {
+fn asked(request: &Request, start: usize) -> String {
+    let kind = request.kind();
+    match request {
         Request::InstallationSetup { handle, room } => {
             let name = name(handle);
             format!("{kind}: keep {room} bytes under {name}, from slot {start} on")
@@ -148,7 +128,7 @@ fn asked(request: InEdition<'_>, start: usize) -> String {
             "{kind}: {} bytes with {} and {} under {}",
             right.payload.len(),
             counted(right.count),
-            hashed(&right.hashes),
+            how_many(right.hashes.len(), "hash", "hashes"),
             name(handle)
         ),
         Request::RightsRetrieval { handle, new_handle }
@@ -165,7 +145,8 @@ fn asked(request: InEdition<'_>, start: usize) -> String {
             format!("{kind}: every course for use")
         }
         Request::HandleListQuery { hashes, .. } => {
-            format!("{kind}: courses for use, by {}", hashed(hashes))
+            let hashes = how_many(hashes.len(), "hash", "hashes");
+            format!("{kind}: courses for use, by {hashes}")
         }
     }
 }
@@ -176,8 +157,8 @@ fn answered(reply: &Reply) -> String {
     match reply {
         Reply::Key(_) => format!("{status}, with the course's key"),
         Reply::Right(right) => {
-            let (count, hashes) = (counted(right.count), hashed(&right.hashes));
-            format!("{status}, with the whole course, {hashes} and {count}")
+            let count = counted(right.count);
+            format!("{status}, with the whole course and {count}")
         }
         Reply::Handles { handles, .. } => {
             let names: Vec<String> = handles.iter().map(name).collect();
@@ -267,38 +248,6 @@ mod tests {
         assert!(with.contains("0 enabled 1 10 17\n"), "{with}");
         assert!(found.contains("Success, with 1 handle: BRAZING-01\n"));
         assert_eq!(text.matches("202").count(), 1);
-    }
-
-    /// A course with a long hash is found by it, beside one with a short hash, and
-    /// goes out whole where it is asked for in the second edition.
-    #[test]
-    fn a_course_with_a_long_hash_goes_out_in_the_second_edition() {
-        let text = walk(&Screen::new(false)).expect("it walks");
-        let steps: Vec<&str> = text.split("\n\n").collect();
-        let needed = steps
-            .iter()
-            .position(|step| step.contains("Edition Needed"));
-        let needed = needed.expect("one step is refused so");
-        let [installed, found, other, refused, given] =
-            [0, 1, 2, 3, 4].map(|step| steps[needed - 3 + step]);
-        assert!(installed.contains("and 1 long hash under TURNING-09\n"));
-        assert!(installed.contains("           42 c0 00 4e "), "{installed}");
-        assert!(installed.contains("0 enabled 1 10 17\n    1 enabled 1 10 17\n"));
-        assert!(
-            found.contains("Success, with 1 handle: TURNING-09\n"),
-            "{found}"
-        );
-        assert!(
-            other.contains("Success, with 1 handle: WELDING-07\n"),
-            "{other}"
-        );
-        assert!(refused.contains("Edition Needed\n           23 0a 00 00\n"));
-        assert!(refused.contains("0 enabled 1 10 17\n"), "{refused}");
-        assert!(given.contains("Rights Retrieval, second edition: lend TURNING-09"));
-        assert!(given.contains("the whole course, 1 long hash and a count of 10\n"));
-        assert!(given.contains("           43 80 00 44 "), "{given}");
-        assert!(given.contains("0 disabled 1 10 17\n"), "{given}");
-        assert_eq!(text.matches("Edition Needed").count(), 1);
     }
 
     /// The card is refused for its worn slot, which the salvage clears and names.

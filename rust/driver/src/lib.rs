@@ -185,16 +185,10 @@ impl Commands {
     /// # Errors
     ///
     /// Where the driver has ended.
-    pub fn write_request(
-        &mut self,
-        version: u8,
-        kind: u8,
-        fields: &Fields<'_>,
-        out: &[u8],
-    ) -> Result<()> {
+    pub fn write_request(&mut self, kind: u8, fields: &Fields<'_>, out: &[u8]) -> Result<()> {
         self.0.write_all(b"w")?;
-        let [version, kind, kept] = [version, kind, fields.kept].map(u16::from);
-        for number in [version, kind, fields.room, fields.count, kept, fields.limit] {
+        let (kind, kept) = (kind.into(), fields.kept.into());
+        for number in [kind, fields.room, fields.count, kept, fields.limit] {
             self.number(number.into())?;
         }
         self.string(fields.handle)?;
@@ -364,8 +358,8 @@ impl Written {
     }
 }
 
-/// The twelve numbers of a reply.
-pub type Numbers = [u16; 12];
+/// The eleven numbers of a reply.
+pub type Numbers = [u16; 11];
 
 /// What a call of `cavernlull_read_reply` gave, and what it left.
 #[derive(Debug, PartialEq, Eq)]
@@ -374,7 +368,7 @@ pub struct Read {
     pub number: u16,
     /// The key.
     pub key: [u8; 16],
-    /// The twelve numbers.
+    /// The eleven numbers.
     pub numbers: Numbers,
 }
 

@@ -2,8 +2,8 @@
 
 mod calls;
 
-use calls::{give_back, lent, line, WEEK, WEEK_ALL, WEEK_IN_JSON, WEEK_IN_WORDS};
-use cavernlull::{Card, Handle, Request, Totals, MOST_RETURNS, SLOT_BYTES};
+use calls::{give_back, lent, WEEK, WEEK_ALL, WEEK_IN_JSON, WEEK_IN_WORDS};
+use cavernlull::{Card, Handle, Request, Totals, MOST_RETURNS};
 use planners::json::quoted;
 use planners::{report, Form};
 use std::collections::BTreeSet;
@@ -51,26 +51,6 @@ fn words_have_returns_and_what_has_no_reply() {
     assert_eq!(text.matches(" is not back: Count Raised\n").count(), 3);
     assert!(!text.contains("Setup"), "{text}");
     assert!(text.ends_with("\n  total -8 in 4 returns\n"), "{text}");
-}
-
-/// A right that needs the other edition, in words and in JSON.
-#[test]
-fn an_edition_that_is_needed_is_reported() {
-    let (handle, new_handle) = (Handle(*b"BRAZING-01"), Handle(*b"LENT-TO-42"));
-    let mut table = vec![0; SLOT_BYTES];
-    table[0] = 0x85;
-    table[1..11].copy_from_slice(&handle.0);
-    table[30] = 1;
-    let text = line(&Request::RightsInformationQuery { handle })
-        + &line(&Request::RightsRetrieval { handle, new_handle });
-    let told = |form| report(&text, Card::from(table.clone()), Totals::new(), form).unwrap();
-    assert!(!told(Form::Words).contains("Edition Needed"));
-    let words = "Rights Retrieval, BRAZING-01 as LENT-TO-42: Edition Needed\n";
-    assert!(told(Form::AllInWords).contains(words));
-    let json = told(Form::Json);
-    let line = json.lines().nth(1).unwrap();
-    assert_eq!(member(line, "status"), "10");
-    assert_eq!(member(line, "outcome"), "\"Edition Needed\"");
 }
 
 /// One start and one return are not many.

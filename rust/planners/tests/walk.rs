@@ -2,10 +2,8 @@
 
 mod calls;
 
-use calls::{give_back, handle, lent, line, line_in, parted, rows, WEEK};
-use cavernlull::{
-    AssetHash, CallError, Card, Edition, Handle, Key, Request, Right, Status, Totals,
-};
+use calls::{give_back, handle, lent, line, parted, rows, WEEK};
+use cavernlull::{AssetHash, CallError, Card, Handle, Key, Request, Right, Status, Totals};
 use cavernlull::{MOST_RETURNS, REPLY_ROOM, SLOT_BYTES};
 use planners::recording;
 use planners::row::{Entry, Outcome, Returned};
@@ -77,29 +75,12 @@ fn a_return_that_would_raise_a_count_is_refused() {
     }
 }
 
-/// A return is counted in either edition.
-#[test]
-fn returns_of_both_editions_are_counted() {
-    let (handle, count) = (handle(0x41), Some(4));
-    let back = Request::RightsEnablement { handle, count };
-    for edition in Edition::ALL {
-        let text = line_in(edition, &back).repeat(2);
-        let (entries, _) = parted(rows(&text, lent(&[Some(9)]), Totals::new()));
-        assert_eq!(did(&entries[0]), (Some(Returned::Counted), -5, -5, 1));
-        assert_eq!(did(&entries[1]), (Some(Returned::Again), 0, -5, 1));
-    }
-}
-
-/// A request of each other kind, about a right that is for use under `41`. The
-/// right has a hash of this edition.
-fn other_requests(edition: Edition) -> [Request; 8] {
+/// A request of each other kind, about a right that is for use under `41`.
+fn other_requests() -> [Request; 8] {
     let (handle, new_handle, room) = (handle(0x41), handle(0x61), 5);
     let right = Right {
         key: Key([0xC5; 16]),
-        hashes: vec![match edition {
-            Edition::First => AssetHash::Short([0xA1; 20]),
-            Edition::Second => AssetHash::Long([0xA1; 32]),
-        }],
+        hashes: vec![AssetHash([0xA1; 20])],
         payload: b"12345".to_vec(),
         ..Right::default()
     };
@@ -120,47 +101,26 @@ fn other_requests(edition: Edition) -> [Request; 8] {
 
 #[test]
 fn other_kinds_are_no_returns_and_have_their_handles() {
-    for edition in Edition::ALL {
-        let requests = other_requests(edition);
-        let lines = requests.iter().map(|request| line_in(edition, request));
-        let text: String = lines.collect();
-        let (entries, periods) = parted(rows(&text, Card::blank(1), Totals::new()));
-        for (entry, request) in entries.iter().zip(requests) {
-            assert_eq!(entry.kind, request.kind().number());
-            assert_eq!(did(entry), (None, 0, 0, 0), "{request:?}");
-            let lends = matches!(entry.kind, 3 | 4);
-            assert_eq!(entry.new_handle, lends.then(|| handle(0x61)));
-            let lists = entry.kind == 8;
-            assert_eq!(entry.handle, (!lists).then(|| handle(0x41)));
-        }
-        assert_eq!((entries.len(), periods[0].calls), (8, 8));
+    let text: String = other_requests().iter().map(line).collect();
+    let (entries, periods) = parted(rows(&text, Card::blank(1), Totals::new()));
+    for (entry, request) in entries.iter().zip(other_requests()) {
+        assert_eq!(entry.kind, request.kind().number());
+        assert_eq!(did(entry), (None, 0, 0, 0), "{request:?}");
+        let lends = matches!(entry.kind, 3 | 4);
+        assert_eq!(entry.new_handle, lends.then(|| handle(0x61)));
+        let lists = entry.kind == 8;
+        assert_eq!(entry.handle, (!lists).then(|| handle(0x41)));
     }
-}
-
-/// A retrieval in the wrong edition, and the one that follows.
-#[test]
-fn a_right_that_needs_the_other_edition_has_its_status() {
-    for edition in Edition::ALL {
-        let [setup, installation, retrieval, ..] = other_requests(edition);
-        let text = line(&setup)
-            + &line(&installation)
-            + &line_in(edition.other(), &retrieval)
-            + &line_in(edition, &retrieval);
-        let (entries, _) = parted(rows(&text, Card::blank(1), Totals::new()));
-        let [refused, given] = [2, 3].map(|call| entries[call].outcome);
-        assert_eq!(refused, Outcome::Reply(Status::EditionNeeded));
-        assert_eq!(given, Outcome::Reply(Status::Success));
-    }
+    assert_eq!((entries.len(), periods[0].calls), (8, 8));
 }
 
 /// Only bytes that stand where a request of that kind has a handle are shown as
 /// one.
 #[test]
 fn bytes_of_another_length_show_no_handle() {
-    for first in 0x20..0x60u8 {
-        let kind = first & 0x1F;
+    for kind in 0..32u8 {
         for body in 0..40u8 {
-            let frame = [vec![first, 0x80, 0, body], vec![0x5A; body.into()]].concat();
+            let frame = [vec![0x20 | kind, 0x80, 0, body], vec![0x5A; body.into()]].concat();
             let hex: Vec<String> = frame.iter().map(|byte| format!("{byte:02x}")).collect();
             let (entries, _) = parted(rows(&hex.concat(), Card::blank(1), Totals::new()));
             let has = match kind {

@@ -7,7 +7,7 @@ mod tables;
 use random::Rng;
 use reference::{listing, Count, Place, SLOT_BYTES};
 use running::{printed_by, printed_in_pieces_by, Printed};
-use tables::{any_table, by_requests, empty, long, reserved, right, LARGEST};
+use tables::{any_table, by_requests, empty, reserved, right, LARGEST};
 
 /// The listing that the program printed. It prints nothing to standard error.
 fn listing_in(printed: Printed) -> String {
@@ -72,7 +72,7 @@ fn a_byte_after_the_largest_table_is_102() {
     table.extend(by_requests());
     lists(&table, "refused 102\n", "a table more");
     // 102 is tested before 103
-    table[191] = 1;
+    table[0] |= 3;
     lists(&table, "refused 102\n", "a damaged slot in it");
     table.truncate(SLOT_BYTES - 1);
     lists(&table, "refused 102\n", "less than the damaged slot");
@@ -122,18 +122,6 @@ fn a_count_that_is_used_up_is_listed_as_0() {
     }
 }
 
-/// Hashes of either edition are counted, and nothing else of them is shown.
-#[test]
-fn long_hashes_are_listed_as_others() {
-    for hashes in 1..=5 {
-        let short = right(Place::Enabled, 1, hashes, Count::Kept(9), 5);
-        let line = format!("0 enabled {hashes} 9 5\n");
-        for slot in [short.clone(), long(short)] {
-            lists(&slot, &format!("{HEADER}{line}"), &line);
-        }
-    }
-}
-
 #[test]
 fn the_longest_listing_is_whole() {
     let table: Vec<u8> = (0..15)
@@ -149,7 +137,7 @@ fn the_longest_listing_is_whole() {
 type Damage = (&'static str, usize, u8);
 
 const RESERVED_WITH: &[Damage] = &[
-    ("the bit of long hashes", 0, 0x41),
+    ("the spare bit", 0, 0x41),
     ("the bit of a count", 0, 0x42),
     ("a hash count", 0, 0x44),
     ("a key", 11, 1),
@@ -161,8 +149,7 @@ const RESERVED_WITH: &[Damage] = &[
 
 /// Damage to a right of a kept count, two hashes and five payload bytes.
 const ENABLED_WITH: &[Damage] = &[
-    ("6 hashes of 32 bytes", 0, 0x9B),
-    ("no hash, but of 32 bytes", 0, 0x83),
+    ("the spare bit", 0, 0x8B),
     ("a count without its bit", 0, 0x88),
     ("9 hashes", 0, 0xA6),
     ("length over 4,096", 29, 0x10),
@@ -171,20 +158,8 @@ const ENABLED_WITH: &[Damage] = &[
     ("a byte after its payload", 197, 1),
 ];
 
-/// Damage to a right of a kept count, two hashes of 32 bytes and five payload bytes.
-const LONG_WITH: &[Damage] = &[
-    ("no hash", 0, 0x83),
-    ("one hash", 0, 0x87),
-    ("6 hashes", 0, 0x9B),
-    ("9 hashes", 0, 0xA7),
-    ("hashes of 20 bytes", 0, 0x8A),
-    ("a count without its bit", 0, 0x89),
-    ("a byte after its hashes", 95, 1),
-    ("byte 191", 191, 1),
-];
-
 const EMPTY_WITH: &[Damage] = &[
-    ("the bit of long hashes", 0, 1),
+    ("the spare bit", 0, 1),
     ("the bit of a count", 0, 2),
     ("a handle", 1, 1),
     ("a length", 30, 1),
@@ -195,10 +170,6 @@ fn a_damaged_slot_is_103() {
     let cases = [
         (reserved(9, 5), RESERVED_WITH),
         (right(Place::Enabled, 9, 2, Count::Kept(7), 5), ENABLED_WITH),
-        (
-            long(right(Place::Enabled, 9, 2, Count::Kept(7), 5)),
-            LONG_WITH,
-        ),
         (empty(), EMPTY_WITH),
     ];
     for (slot, damages) in cases {

@@ -9,7 +9,7 @@ mod tables;
 use random::Rng;
 use reference::{salvage, salvage_text, Count, Place, SLOT_BYTES};
 use running::{printed_by, printed_in_pieces_by, Printed};
-use tables::{any_table, by_requests, empty, long, reserved, right, LARGEST};
+use tables::{any_table, by_requests, empty, reserved, right, LARGEST};
 
 /// What the program is to print for these bytes. Of those that are refused it
 /// prints no table.
@@ -136,7 +136,7 @@ fn a_byte_after_the_largest_table_is_102() {
     refuses(&table, "one byte more");
     table.extend(by_requests());
     refuses(&table, "a table more");
-    table[191] = 1;
+    table[0] |= 1;
     refuses(&table, "a damaged slot in it");
     table.truncate(LARGEST);
     clears(&table, 1, "the damaged slot, and no byte more");
@@ -159,7 +159,7 @@ fn the_longest_report_is_whole() {
 type Damage = (&'static str, usize, u8);
 
 const RESERVED_WITH: &[Damage] = &[
-    ("the bit of long hashes", 0, 0x41),
+    ("the spare bit", 0, 0x41),
     ("the bit of a count", 0, 0x42),
     ("a hash count", 0, 0x44),
     ("a key", 11, 1),
@@ -170,8 +170,7 @@ const RESERVED_WITH: &[Damage] = &[
 
 /// Damage to a right of a kept count, two hashes and five payload bytes.
 const ENABLED_WITH: &[Damage] = &[
-    ("6 hashes of 32 bytes", 0, 0x9B),
-    ("no hash, but of 32 bytes", 0, 0x83),
+    ("the spare bit", 0, 0x8B),
     ("a count without its bit", 0, 0x88),
     ("9 hashes", 0, 0xA6),
     ("the place of an empty slot", 0, 0x0A),
@@ -182,20 +181,8 @@ const ENABLED_WITH: &[Damage] = &[
     ("a byte after its payload", 197, 1),
 ];
 
-/// Damage to a right of a kept count, two hashes of 32 bytes and five payload bytes.
-const LONG_WITH: &[Damage] = &[
-    ("no hash", 0, 0x83),
-    ("one hash", 0, 0x87),
-    ("6 hashes", 0, 0x9B),
-    ("9 hashes", 0, 0xA7),
-    ("hashes of 20 bytes", 0, 0x8A),
-    ("a count without its bit", 0, 0x89),
-    ("a byte after its hashes", 95, 1),
-    ("byte 191", 191, 1),
-];
-
 const EMPTY_WITH: &[Damage] = &[
-    ("the bit of long hashes", 0, 1),
+    ("the spare bit", 0, 1),
     ("the bit of a count", 0, 2),
     ("a handle", 1, 1),
     ("a length", 30, 1),
@@ -209,10 +196,6 @@ fn a_damaged_slot_is_named_and_cleared() {
         (
             right(Place::Enabled, 99, 2, Count::Kept(7), 5),
             ENABLED_WITH,
-        ),
-        (
-            long(right(Place::Enabled, 99, 2, Count::Kept(7), 5)),
-            LONG_WITH,
         ),
         (empty(), EMPTY_WITH),
     ];
@@ -256,14 +239,6 @@ fn rights_without_a_hash_are_kept() {
     let table = [old(1), worn(old(2)), old(3)].concat();
     let report = clears(&table, 1, "rights without a hash").errors;
     assert_eq!(report, "0 kept\n1 damaged\n2 kept\ncleared 1\n");
-}
-
-#[test]
-fn rights_with_long_hashes_are_kept() {
-    let long = |handle| long(right(Place::Disabled, handle, 5, Count::Kept(1), 9));
-    let table = [long(1), worn(long(2)), course(3), long(3)].concat();
-    let report = clears(&table, 2, "rights with long hashes").errors;
-    assert_eq!(report, "0 kept\n1 damaged\n2 kept\n3 repeated\ncleared 2\n");
 }
 
 /// A well-formed table at random, damaged in up to four slots: a bit is changed, a

@@ -1,17 +1,16 @@
 //! The card agent.
 
-use crate::frame::Frame;
+use crate::frame::kind_bits;
 use crate::number::{DONE, NO_FRAME, REPLY_BUFFER_SHORT, TALLY_DIFFERS};
 use crate::reply::{handles_body, information_body, reply_frame, Success};
 use crate::request::content_of;
 use crate::slot::{self, Place, SlotBytes};
 use crate::table;
-use crate::{read_request, Count, Edition, Fields, Handle, Kind, ReadRequest, Request};
-use crate::{Status, Tally};
+use crate::{read_request, Count, Fields, Handle, Kind, ReadRequest, Request, Status, Tally};
 use crate::{HANDLE_BYTES, MAX_PAYLOAD};
 
 /// The bytes that a reply buffer must have: as many as the longest reply, which
-/// retrieves a right of 160 hash bytes and 4,096 payload bytes.
+/// retrieves a right of 8 hashes and 4,096 payload bytes.
 pub const REPLY_ROOM: usize = 4279;
 
 /// What a success gives, or the status of a refusal.
@@ -54,27 +53,29 @@ pub fn call(
 }
 
 /// Carries out a frame and gives its reply; `None` for 104.
+///
+/// The reply is of version 1 and has the kind bits of the frame, whatever
+/// version and kind these are.
 fn answer(slots: &mut [SlotBytes], start: usize, frame: &[u8]) -> Option<Vec<u8>> {
-    let asked = Frame::split(frame)?;
     let outcome = match read_request(frame) {
         ReadRequest::NoFrame => return None,
         ReadRequest::Refused(status) => Err(status),
         ReadRequest::Request(request) => carry_out(slots, start, &request),
     };
-    Some(reply_frame(&asked, &outcome))
+    Some(reply_frame(kind_bits(frame[0]), &outcome))
 }
 
 fn carry_out(slots: &mut [SlotBytes], start: usize, request: &Request<'_>) -> Outcome {
     let fields = &request.fields;
     match request.kind {
         Kind::InstallationSetup => set_up(slots, start, fields),
-        Kind::RightsInstallation => install(slots, request),
-        Kind::RightsRetrieval => retrieve(slots, request.edition, fields),
+        Kind::RightsInstallation => install(slots, fields),
+        Kind::RightsRetrieval => retrieve(slots, fields),
         Kind::RekQuery => query_rek(slots, fields),
         Kind::RightsEnablement => enable(slots, fields),
         Kind::RightsRemoval => remove_right(slots, fields),
         Kind::HandleRemoval => remove_handle(slots, fields),
-        Kind::HandleListQuery => Ok(Success::with_body(list_handles(slots, request))),
+        Kind::HandleListQuery => Ok(Success::with_body(list_handles(slots, fields))),
         Kind::RightsInformationQuery => inform(slots, fields),
     }
 }
@@ -98,48 +99,41 @@ fn set_up(slots: &mut [SlotBytes], start: usize, fields: &Fields<'_>) -> Outcome
 /// Kind 2 (PROFILE 5.2), after its field tests: status 4 for an unknown
 /// handle, then 6 where the record is not reserved, then 7 for a payload longer
 /// than the room reserved. A success enables the record with the request's
-/// fields, whether a count is kept among them, with the mark of the request's
-/// edition, and with the payload's length as its length.
-fn install(slots: &mut [SlotBytes], request: &Request<'_>) -> Outcome {
-    let fields = &request.fields;
+/// fields, whether a count is kept among them, and with the payload's length as
+/// its length.
+fn install(slots: &mut [SlotBytes], fields: &Fields<'_>) -> Outcome {
     let slot = record(slots, &fields.handle)?;
     expect(slot::place(slot) == Place::Reserved)?;
     if fields.payload.len() > usize::from(slot::length(slot)) {
         return Err(Status::NotEnoughSpace);
     }
-    slot::fill(slot, &content_of(request));
+    slot::fill(slot, &content_of(fields));
     Ok(Success::default())
 }
 
-/// Kind 3 (PROFILE 5.3): lends the right, if it goes out in this edition; the body
-/// is its content, and the head says whether a count is kept.
-fn retrieve(slots: &mut [SlotBytes], edition: Edition, fields: &Fields<'_>) -> Outcome {
-    let content = slot::content(lend(slots, fields, Some(edition))?);
+/// Kind 3 (PROFILE 5.3): lends the right; the body is its content, and the head
+/// says whether a count is kept.
+fn retrieve(slots: &mut [SlotBytes], fields: &Fields<'_>) -> Outcome {
+    let content = slot::content(lend(slots, fields)?);
     let mut body = Vec::new();
     content.write_to(&mut body);
     let kept = content.count.is_kept();
     Ok(Success { kept, body })
 }
 
-/// Kind 4 (PROFILE 5.4): lends the right, of whatever edition; the body is its key.
+/// Kind 4 (PROFILE 5.4): lends the right; the body is its key.
 fn query_rek(slots: &mut [SlotBytes], fields: &Fields<'_>) -> Outcome {
-    let slot = lend(slots, fields, None)?;
+    let slot = lend(slots, fields)?;
     Ok(Success::with_body(slot::key(slot).to_vec()))
 }
 
 /// Kinds 3 and 4: status 4 for an unknown handle, then 6 where the record is
-/// not enabled, then 10 where its hashes are not of the edition that they go out
-/// in, then 5 where the new handle is in use, be it by this very record. A success
-/// overwrites the handle with the new one, disables the record and changes nothing
-/// else. Gives the record's slot after the change.
-fn lend<'a>(
-    slots: &'a mut [SlotBytes],
-    fields: &Fields<'_>,
-    goes_out_in: Option<Edition>,
-) -> Result<&'a mut SlotBytes, Status> {
+/// not enabled, then 5 where the new handle is in use, be it by this very
+/// record. A success overwrites the handle with the new one, disables the
+/// record and changes nothing else. Gives the record's slot after the change.
+fn lend<'a>(slots: &'a mut [SlotBytes], fields: &Fields<'_>) -> Result<&'a mut SlotBytes, Status> {
     let index = locate(slots, &fields.handle)?;
     expect(slot::place(&slots[index]) == Place::Enabled)?;
-    refuse_other_edition(&slots[index], goes_out_in)?;
     refuse_duplicate(slots, &fields.new_handle)?;
     slot::lend(&mut slots[index], &fields.new_handle);
     Ok(&mut slots[index])
@@ -180,9 +174,9 @@ fn remove_handle(slots: &mut [SlotBytes], fields: &Fields<'_>) -> Outcome {
 /// Kind 8 (PROFILE 5.8), after its field tests: lists the first handles that
 /// fit, each as a whole, in as many bytes as the limit says, or all of them
 /// where the limit is 0. The bit "more" says whether any was left off.
-fn list_handles(slots: &[SlotBytes], request: &Request<'_>) -> Vec<u8> {
-    let wanted = wanted_handles(slots, request.edition, request.fields.hashes);
-    let fitting = match request.fields.limit {
+fn list_handles(slots: &[SlotBytes], fields: &Fields<'_>) -> Vec<u8> {
+    let wanted = wanted_handles(slots, fields.hashes);
+    let fitting = match fields.limit {
         0 => wanted.len(),
         limit => wanted.len().min(usize::from(limit) / HANDLE_BYTES),
     };
@@ -191,13 +185,13 @@ fn list_handles(slots: &[SlotBytes], request: &Request<'_>) -> Vec<u8> {
 
 /// The handles that kind 8 asks for, in the order of their slots: those of the
 /// enabled records that have one of the request's hashes or, where the request
-/// has none, of all enabled records, of both editions. A record without a hash is
-/// asked for only with all the others (PROFILE 2.9).
-fn wanted_handles(slots: &[SlotBytes], edition: Edition, hashes: &[u8]) -> Vec<Handle> {
+/// has none, of all enabled records. A record without a hash is asked for only
+/// with all the others (PROFILE 2.9).
+fn wanted_handles(slots: &[SlotBytes], hashes: &[u8]) -> Vec<Handle> {
     slots
         .iter()
         .filter(|slot| slot::place(slot) == Place::Enabled)
-        .filter(|slot| hashes.is_empty() || slot::has_hash_of(slot, edition, hashes))
+        .filter(|slot| hashes.is_empty() || slot::has_hash_of(slot, hashes))
         .map(slot::handle)
         .collect()
 }
@@ -232,14 +226,6 @@ fn expect(as_expected: bool) -> Result<(), Status> {
         return Err(Status::UnexpectedRequest);
     }
     Ok(())
-}
-
-/// Status 10 where a right that is to go out whole has hashes of another edition.
-fn refuse_other_edition(slot: &SlotBytes, goes_out_in: Option<Edition>) -> Result<(), Status> {
-    match goes_out_in {
-        Some(edition) if !slot::goes_out_in(slot, edition) => Err(Status::EditionNeeded),
-        _ => Ok(()),
-    }
 }
 
 /// Status 9 where the count sent raises the one stored.

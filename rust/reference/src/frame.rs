@@ -5,13 +5,12 @@
 //! (PROFILE 3.1, 3.2).
 
 use crate::bytes::u16_at;
-use crate::Edition;
 
-/// The bits of byte 0 that hold the kind; those above hold the version.
+/// The one version there is.
+const VERSION: u8 = 1;
+
+/// The bits of byte 0 that hold the kind.
 const KIND_BITS: u8 = 0b0001_1111;
-
-/// Where in byte 0 the version is.
-const VERSION_AT: u32 = 5;
 
 /// The bytes before the body.
 const HEAD_BYTES: usize = 4;
@@ -38,22 +37,27 @@ impl<'a> Frame<'a> {
         })
     }
 
-    /// The edition of the version; `None` where there is no such version.
-    pub fn edition(&self) -> Option<Edition> {
-        Edition::of_version(self.first >> VERSION_AT)
+    /// Whether the version is the one there is.
+    pub fn version_is_right(&self) -> bool {
+        self.first >> 5 == VERSION
     }
 
     /// The five bits of the kind, whatever they are.
     pub fn kind_bits(&self) -> u8 {
-        self.first & KIND_BITS
+        kind_bits(self.first)
     }
 }
 
-/// The bytes of a frame; `kind_bits` is under 32.
-pub(crate) fn join(edition: Edition, kind_bits: u8, second: u8, body: &[u8]) -> Vec<u8> {
+/// The five bits of the kind in the first byte of a frame.
+pub(crate) fn kind_bits(first: u8) -> u8 {
+    first & KIND_BITS
+}
+
+/// The bytes of a frame of version 1; `kind_bits` is under 32.
+pub(crate) fn join(kind_bits: u8, second: u8, body: &[u8]) -> Vec<u8> {
     let length = u16::try_from(body.len()).expect("no body has more than 4,285 bytes");
     let mut frame = Vec::with_capacity(HEAD_BYTES + body.len());
-    frame.push(edition.version() << VERSION_AT | kind_bits);
+    frame.push(VERSION << 5 | kind_bits);
     frame.push(second);
     frame.extend(length.to_be_bytes());
     frame.extend(body);

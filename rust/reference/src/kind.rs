@@ -49,9 +49,9 @@ impl Kind {
     }
 
     /// Whether a request of this kind may have a body of `length` bytes
-    /// (PROFILE 3.3), in either version. Of kind 2, bodies of 30 to 49 bytes have no
-    /// room for a hash and a payload, nor up to 61 in version 2; it is the field
-    /// test that refuses them, after the verdict (PROFILE 5.2).
+    /// (PROFILE 3.3). Of kind 2, bodies of 30 to 49 bytes have no room for a hash
+    /// and a payload; it is the field test that refuses them, after the verdict
+    /// (PROFILE 5.2).
     pub(crate) fn takes_body_of(self, length: usize) -> bool {
         match self {
             Kind::InstallationSetup | Kind::RightsEnablement => length == 12,

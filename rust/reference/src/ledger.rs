@@ -7,7 +7,7 @@
 //! [`agrees`] compares a table with it.
 
 use crate::slot::{self, Place, SlotBytes};
-use crate::{table, Count, Edition, Fields, Handle, Key, Kind, Request, Status};
+use crate::{table, Count, Fields, Handle, Key, Kind, Request, Status};
 
 /// Whether a right is for use, lent or gone.
 #[derive(Clone, Copy, Debug, PartialEq, Eq)]
@@ -32,8 +32,6 @@ pub struct Right {
     pub key: Key,
     /// The count: whether one is kept, and which.
     pub count: Count,
-    /// The edition of the hashes; the first where there is none.
-    pub edition: Edition,
     /// The asset hashes, one after another.
     pub hashes: Vec<u8>,
     /// The payload.
@@ -126,7 +124,7 @@ impl Ledger {
         let fields = &request.fields;
         match request.kind {
             Kind::InstallationSetup => self.open_setup(fields),
-            Kind::RightsInstallation => self.install(request),
+            Kind::RightsInstallation => self.install(fields),
             Kind::RightsRetrieval | Kind::RekQuery => self.lend(fields),
             Kind::RightsEnablement => self.take_back(fields),
             Kind::RightsRemoval => self.remove(fields),
@@ -166,16 +164,14 @@ impl Ledger {
     }
 
     /// Kind 2 closes the setup under its handle and makes a new right, for use
-    /// under that handle, with the request's fields, whose hashes are of its edition.
-    fn install(&mut self, request: &Request<'_>) {
-        let fields = &request.fields;
+    /// under that handle, with the request's fields.
+    fn install(&mut self, fields: &Fields<'_>) {
         self.close_setup(&fields.handle);
         self.rights.push(Right {
             standing: Standing::ForUse,
             handle: fields.handle,
             key: fields.key,
             count: fields.count,
-            edition: request.edition,
             hashes: fields.hashes.to_vec(),
             payload: fields.payload.to_vec(),
         });
@@ -230,7 +226,6 @@ fn right_in(slot: &SlotBytes, standing: Standing) -> Right {
         handle: slot::handle(slot),
         key: slot::key(slot),
         count: slot::count(slot),
-        edition: slot::edition(slot),
         hashes: slot::hashes(slot).to_vec(),
         payload: slot::payload(slot).to_vec(),
     }
@@ -282,7 +277,6 @@ fn first_difference(told: &Record, held: &Record) -> &'static str {
         ("key", told.key == held.key),
         ("count", told.count == held.count),
         ("length", told.length == held.length),
-        ("edition", told.edition == held.edition),
         ("hashes", told.hashes == held.hashes),
     ];
     let first = equal.iter().find(|(_, equal)| !equal);
@@ -297,7 +291,6 @@ struct Record {
     key: Key,
     count: Count,
     length: usize,
-    edition: Edition,
     hashes: Vec<u8>,
     payload: Vec<u8>,
 }
@@ -316,7 +309,6 @@ fn record_of_setup(setup: &Setup) -> Record {
         key: Key::default(),
         count: Count::NotKept,
         length: setup.length.into(),
-        edition: Edition::First,
         hashes: Vec::new(),
         payload: Vec::new(),
     }
@@ -334,7 +326,6 @@ fn record_of_right(right: &Right) -> Option<Record> {
         key: right.key,
         count: right.count,
         length: right.payload.len(),
-        edition: right.edition,
         hashes: right.hashes.clone(),
         payload: right.payload.clone(),
     })
@@ -356,7 +347,6 @@ fn record_of_slot(slot: &SlotBytes) -> Record {
         key: slot::key(slot),
         count: slot::count(slot),
         length: slot::length(slot).into(),
-        edition: slot::edition(slot),
         hashes: slot::hashes(slot).to_vec(),
         payload: slot::payload(slot).to_vec(),
     }

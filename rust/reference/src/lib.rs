@@ -10,7 +10,6 @@
 //! | item | what it is | PROFILE |
 //! |---|---|---|
 //! | [`call`] | the card agent: a lent table and its tally, a start, a frame, a lent reply buffer | 1.1, 4, 5 |
-//! | [`Edition`] | versions of frames and lengths of hashes | 1.4 |
 //! | [`call_totalling`], [`Totals`] | the same, with a total of what returns did to counts | 4.4, 4.5 |
 //! | [`write_request`] | the device's request writer | 6.2 |
 //! | [`read_request`] | the request reader, which the card uses too | 6.1 |
@@ -46,7 +45,7 @@
 //!
 //! let fields = WriterFields { handle: [1; 10], length: 5, ..WriterFields::default() };
 //! let mut frame = [0; 16];
-//! assert_eq!(write_request(1, 1, &fields, &mut frame), 0);
+//! assert_eq!(write_request(1, &fields, &mut frame), 0);
 //!
 //! let mut table = vec![0; SLOT_BYTES];
 //! let mut tally = Tally::from([1, 0, 0, 0, 0]);
@@ -68,7 +67,6 @@ mod bytes;
 mod content;
 mod count;
 mod counts_told;
-mod edition;
 mod frame;
 mod kind;
 pub mod ledger;
@@ -88,7 +86,6 @@ mod turning;
 pub use agent::{call, REPLY_ROOM};
 pub use count::Count;
 pub use counts_told::CountsTold;
-pub use edition::{Edition, HASH_ROOM};
 pub use kind::Kind;
 pub use listing::listing;
 pub use reply::{read_reply, Reply, ReplyFields};
@@ -113,6 +110,12 @@ pub const HANDLE_BYTES: usize = 10;
 
 /// The bytes of a key.
 pub const KEY_BYTES: usize = 16;
+
+/// The bytes of one asset hash, which is a SHA-1.
+pub const HASH_BYTES: usize = 20;
+
+/// The most asset hashes of a right, or of a query.
+pub const MAX_HASHES: usize = 8;
 
 /// The longest payload, and the longest room that can be reserved.
 pub const MAX_PAYLOAD: usize = 4096;

@@ -33,11 +33,10 @@ pub const TOTAL_OUTSIDE: u16 = 108;
 /// The writer's buffer is shorter than the frame (PROFILE 6.2).
 pub const WRITER_BUFFER_SHORT: u16 = 201;
 
-/// The writer cannot write these fields (PROFILE 6.2): the version is neither 1
-/// nor 2, the kind is not 1 to 9, the hashes are not whole ones of the version, up
-/// to 160 bytes, kind 2 has no hash or a payload that is not 1 to 4,096 bytes,
-/// count and `kept` say no count, or a field that the kind lacks is not zero or
-/// empty.
+/// The writer cannot write these fields (PROFILE 6.2): the kind is not 1 to 9,
+/// the hashes are not 0 to 8 times 20 bytes, kind 2 has no hash or a payload that
+/// is not 1 to 4,096 bytes, count and `kept` say no count, or a field that the
+/// kind lacks is not zero or empty.
 pub const WRITER_FIELDS: u16 = 202;
 
 /// The reply reader was not given a reply (PROFILE 6.3).

@@ -4,7 +4,7 @@ use crate::bytes::{array_at, u16_at};
 use crate::content::{payload_length_is_right, Content};
 use crate::frame::{self, Frame};
 use crate::number::NO_REPLY;
-use crate::{Count, Edition, Key, Kind, Status, HANDLE_BYTES, KEY_BYTES, MAX_SLOTS};
+use crate::{Count, Key, Kind, Status, HANDLE_BYTES, KEY_BYTES, MAX_SLOTS};
 
 /// The bit of the second byte that says that a count is kept, in successful
 /// replies to kinds 3 and 9; in all others it is 0 (PROFILE 3.2).
@@ -49,8 +49,6 @@ pub struct ReplyFields<'a> {
 /// A reply that the reader accepts.
 #[derive(Clone, Copy, Debug, PartialEq, Eq)]
 pub struct Reply<'a> {
-    /// The edition, by the version: that of the hashes.
-    pub edition: Edition,
     /// The kind bits of the request: 0 to 31, and 1 to 9 where the status is 0.
     pub kind: u8,
     /// The status.
@@ -60,24 +58,22 @@ pub struct Reply<'a> {
 }
 
 /// Reads a reply frame (PROFILE 6.3). It is refused with 203 unless its length
-/// is right, the version is 1 or 2, the status is 0 to 7, 9 or 10, the body is of its
-/// kind's shape at status 0 and empty at any other, and the bit of the count is set
-/// only where the reply has a count, and always where this is not 0.
+/// and version are right, the status is 0 to 7 or 9, the body is of its kind's
+/// shape at status 0 and empty at any other, and the bit of the count is set only
+/// where the reply has a count, and always where this is not 0.
 pub fn read_reply(bytes: &[u8]) -> Result<Reply<'_>, u16> {
     read(bytes).ok_or(NO_REPLY)
 }
 
 fn read(bytes: &[u8]) -> Option<Reply<'_>> {
-    let frame = Frame::split(bytes)?;
-    let edition = frame.edition()?;
+    let frame = Frame::split(bytes).filter(Frame::version_is_right)?;
     let kept = frame.second & KEPT != 0;
     let status = Status::from_number(frame.second & STATUS_BITS)?;
     let fields = match status {
-        Status::Success => read_success(edition, &frame, kept)?,
+        Status::Success => read_success(frame.kind_bits(), kept, frame.body)?,
         _ => read_empty(frame.body)?,
     };
     (fields.count.is_kept() == kept).then_some(Reply {
-        edition,
         kind: frame.kind_bits(),
         status,
         fields,
@@ -86,15 +82,14 @@ fn read(bytes: &[u8]) -> Option<Reply<'_>> {
 
 /// Reads the body of a reply with status 0. A kind outside 1 to 9 has no
 /// success.
-fn read_success<'a>(edition: Edition, frame: &Frame<'a>, kept: bool) -> Option<ReplyFields<'a>> {
-    let body = frame.body;
-    match Kind::from_number(frame.kind_bits())? {
+fn read_success(kind_bits: u8, kept: bool, body: &[u8]) -> Option<ReplyFields<'_>> {
+    match Kind::from_number(kind_bits)? {
         Kind::InstallationSetup
         | Kind::RightsInstallation
         | Kind::RightsEnablement
         | Kind::RightsRemoval
         | Kind::HandleRemoval => read_empty(body),
-        Kind::RightsRetrieval => read_content(edition, kept, body),
+        Kind::RightsRetrieval => read_content(kept, body),
         Kind::RekQuery => read_key(body),
         Kind::HandleListQuery => read_handles(body),
         Kind::RightsInformationQuery => read_information(kept, body),
@@ -106,11 +101,11 @@ fn read_empty(body: &[u8]) -> Option<ReplyFields<'_>> {
     body.is_empty().then(ReplyFields::default)
 }
 
-/// Kind 3: a content with its zero bits 0, no more hashes than the edition allows,
-/// a payload of 1 to 4,096 bytes, and no count without its bit. It is one that a
-/// table may hold, so it may be without a hash (PROFILE 6.3).
-fn read_content(edition: Edition, kept: bool, body: &[u8]) -> Option<ReplyFields<'_>> {
-    let content = Content::read(body, edition, kept)?;
+/// Kind 3: a content with its zero bits 0, 0 to 8 hashes, a payload of 1 to
+/// 4,096 bytes, and no count without its bit. It is one that a table may hold, so
+/// it may be without a hash (PROFILE 6.3).
+fn read_content(kept: bool, body: &[u8]) -> Option<ReplyFields<'_>> {
+    let content = Content::read(body, kept)?;
     Some(ReplyFields {
         key: content.key,
         count: content.count,
@@ -168,16 +163,16 @@ impl Success {
     }
 }
 
-/// The frame of the reply to a request, carried out or refused: the kind bits are
-/// those of the request, and so is the version if there is such a one, and else 1. A
-/// refusal has an empty body (PROFILE 3.2).
-pub(crate) fn reply_frame(request: &Frame<'_>, outcome: &Result<Success, Status>) -> Vec<u8> {
-    let edition = request.edition().unwrap_or(Edition::First);
-    let (second, body) = match outcome {
-        Ok(success) => (if success.kept { KEPT } else { 0 }, &success.body[..]),
-        Err(status) => (status.number(), &[][..]),
-    };
-    frame::join(edition, request.kind_bits(), second, body)
+/// The frame of the reply to a request, carried out or refused: the kind bits
+/// are those of the request, and a refusal has an empty body (PROFILE 3.2).
+pub(crate) fn reply_frame(kind_bits: u8, outcome: &Result<Success, Status>) -> Vec<u8> {
+    match outcome {
+        Ok(success) => {
+            let kept = if success.kept { KEPT } else { 0 };
+            frame::join(kind_bits, kept | Status::Success.number(), &success.body)
+        }
+        Err(status) => frame::join(kind_bits, status.number(), &[]),
+    }
 }
 
 /// The body of kind 8: a byte with the bit "more", then the handles.

@@ -1,10 +1,10 @@
 //! Requests: their fields, their reader and their writer.
 
 use crate::bytes::{array_at, u16_at};
-use crate::content::Content;
+use crate::content::{hash_count, Content};
 use crate::frame::{self, Frame};
 use crate::number::{DONE, WRITER_BUFFER_SHORT, WRITER_FIELDS};
-use crate::{Count, Edition, Handle, Key, Kind, Status, HANDLE_BYTES, HASH_ROOM};
+use crate::{Count, Handle, Key, Kind, Status, HANDLE_BYTES, HASH_BYTES, MAX_HASHES};
 
 /// The verdict bit in the second byte of a request, set where the MAC held
 /// (PROFILE 3.1).
@@ -119,8 +119,6 @@ impl<'a> From<Fields<'a>> for WriterFields<'a> {
 /// The verdict is not kept: in kinds 1 to 7 it is 1, and 8 and 9 ignore it.
 #[derive(Clone, Copy, Debug, PartialEq, Eq)]
 pub struct Request<'a> {
-    /// The edition, by the version: that of the hashes, and of the reply.
-    pub edition: Edition,
     /// The kind.
     pub kind: Kind,
     /// The fields that the kind has; the others are zero or empty.
@@ -153,22 +151,18 @@ pub fn read_request(bytes: &[u8]) -> ReadRequest<'_> {
 }
 
 fn read_frame<'a>(frame: &Frame<'a>) -> Result<Request<'a>, Status> {
-    let (edition, kind) = test_for_all_kinds(frame)?;
-    let fields = read_fields(edition, kind, frame).ok_or(Status::ParameterFailed)?;
-    Ok(Request {
-        edition,
-        kind,
-        fields,
-    })
+    let kind = test_for_all_kinds(frame)?;
+    let kept = frame.second & KEPT != 0;
+    let fields = read_fields(kind, kept, frame.body).ok_or(Status::ParameterFailed)?;
+    Ok(Request { kind, fields })
 }
 
 /// The tests for all kinds, in their order (PROFILE 4.3): status 2 for a
-/// version other than 1 and 2 or a zero bit that is set, 3 for a kind outside 1 to
-/// 9, 2 for a body length that the kind cannot have, and 1 for a verdict of 0 in
+/// version other than 1 or a zero bit that is set, 3 for a kind outside 1 to 9,
+/// 2 for a body length that the kind cannot have, and 1 for a verdict of 0 in
 /// kinds 1 to 7.
-fn test_for_all_kinds(frame: &Frame<'_>) -> Result<(Edition, Kind), Status> {
-    let edition = frame.edition().ok_or(Status::ParameterFailed)?;
-    if frame.second & zero_bits(frame.kind_bits()) != 0 {
+fn test_for_all_kinds(frame: &Frame<'_>) -> Result<Kind, Status> {
+    if !frame.version_is_right() || frame.second & zero_bits(frame.kind_bits()) != 0 {
         return Err(Status::ParameterFailed);
     }
     let kind = Kind::from_number(frame.kind_bits()).ok_or(Status::RequestNotSupported)?;
@@ -178,7 +172,7 @@ fn test_for_all_kinds(frame: &Frame<'_>) -> Result<(Edition, Kind), Status> {
     if kind.heeds_verdict() && frame.second & VERDICT == 0 {
         return Err(Status::FieldIntegrityVerificationFailed);
     }
-    Ok((edition, kind))
+    Ok(kind)
 }
 
 /// The zero bits of the second byte: seven, for kinds outside 1 to 9 too, but
@@ -190,13 +184,12 @@ fn zero_bits(kind_bits: u8) -> u8 {
     }
 }
 
-/// Reads the fields of a frame whose body has a length of its kind; `None` where a
-/// field test of kind 2, 5 or 8 fails.
-fn read_fields<'a>(edition: Edition, kind: Kind, frame: &Frame<'a>) -> Option<Fields<'a>> {
+/// Reads the fields of a body whose length is the kind's, where the head has the
+/// bit `kept`; `None` where a field test of kind 2, 5 or 8 fails.
+fn read_fields(kind: Kind, kept: bool, body: &[u8]) -> Option<Fields<'_>> {
     let none = Fields::default();
-    let (kept, body) = (frame.second & KEPT != 0, frame.body);
     if kind == Kind::HandleListQuery {
-        return read_list_fields(edition, body);
+        return read_list_fields(body);
     }
     let (handle, rest) = (array_at(body, 0), &body[HANDLE_BYTES..]);
     let fields = match kind {
@@ -204,7 +197,7 @@ fn read_fields<'a>(edition: Edition, kind: Kind, frame: &Frame<'a>) -> Option<Fi
             length: u16_at(rest, 0),
             ..none
         },
-        Kind::RightsInstallation => read_content_fields(edition, kept, rest)?,
+        Kind::RightsInstallation => read_content_fields(kept, rest)?,
         Kind::RightsRetrieval | Kind::RekQuery => Fields {
             new_handle: array_at(rest, 0),
             ..none
@@ -218,11 +211,11 @@ fn read_fields<'a>(edition: Edition, kind: Kind, frame: &Frame<'a>) -> Option<Fi
     Some(Fields { handle, ..fields })
 }
 
-/// The field tests of kind 2 (PROFILE 5.2): no count without its bit, one hash or
-/// more, but not over the most, the four zero bits 0, and a payload of 1 to 4,096
-/// bytes after the hashes.
-fn read_content_fields(edition: Edition, kept: bool, content: &[u8]) -> Option<Fields<'_>> {
-    let content = Content::read(content, edition, kept)?;
+/// The field tests of kind 2 (PROFILE 5.2): no count without its bit, 1 to 8
+/// hashes, the four zero bits 0, and a payload of 1 to 4,096 bytes after the
+/// hashes.
+fn read_content_fields(kept: bool, content: &[u8]) -> Option<Fields<'_>> {
+    let content = Content::read(content, kept)?;
     content.may_be_installed().then_some(Fields {
         key: content.key,
         count: content.count,
@@ -232,13 +225,12 @@ fn read_content_fields(edition: Edition, kept: bool, content: &[u8]) -> Option<F
     })
 }
 
-/// The field tests of kind 8 (PROFILE 5.8): at most as many hashes as the edition
-/// allows, and a body that ends where they end.
-fn read_list_fields(edition: Edition, body: &[u8]) -> Option<Fields<'_>> {
+/// The field tests of kind 8 (PROFILE 5.8): at most 8 hashes, and a body that
+/// ends where they end.
+fn read_list_fields(body: &[u8]) -> Option<Fields<'_>> {
     let (head, hashes) = body.split_at_checked(LIST_HEAD_BYTES)?;
     let hash_count = usize::from(head[2]);
-    let few = edition.hashes_in_a_frame().contains(&hash_count);
-    (few && hashes.len() == edition.hash_bytes() * hash_count).then_some(Fields {
+    (hash_count <= MAX_HASHES && hashes.len() == HASH_BYTES * hash_count).then_some(Fields {
         limit: u16_at(head, 0),
         hashes,
         ..Fields::default()
@@ -250,11 +242,15 @@ fn read_list_fields(edition: Edition, body: &[u8]) -> Option<Fields<'_>> {
 /// after the frame keep what they held, and a refusal changes no byte.
 ///
 /// No kind takes a count that bit and number do not say.
-pub fn write_request(version: u8, kind: u8, fields: &WriterFields<'_>, out: &mut [u8]) -> u16 {
-    let Some(request) = request_of(version, kind, fields).filter(fields_are_right) else {
+pub fn write_request(kind: u8, fields: &WriterFields<'_>, out: &mut [u8]) -> u16 {
+    let (Some(kind), Some(fields)) = (Kind::from_number(kind), fields.said()) else {
         return WRITER_FIELDS;
     };
-    let frame = written(&request);
+    if !fields_are_right(kind, &fields) {
+        return WRITER_FIELDS;
+    }
+    let kept = if fields.count.is_kept() { KEPT } else { 0 };
+    let frame = frame::join(kind.number(), VERDICT | kept, &body(kind, &fields));
     let Some(place) = out.get_mut(..frame.len()) else {
         return WRITER_BUFFER_SHORT;
     };
@@ -262,29 +258,17 @@ pub fn write_request(version: u8, kind: u8, fields: &WriterFields<'_>, out: &mut
     DONE
 }
 
-/// The request that these numbers and fields say; `None` for a version or a kind
-/// that does not exist, and for what says no count.
-fn request_of<'a>(version: u8, kind: u8, fields: &WriterFields<'a>) -> Option<Request<'a>> {
-    Some(Request {
-        edition: Edition::of_version(version)?,
-        kind: Kind::from_number(kind)?,
-        fields: fields.said()?,
-    })
-}
-
-/// Whether the writer takes these fields (PROFILE 6.2): the hashes are whole ones
-/// of the edition, kind 2 has a hash and a payload of 1 to 4,096 bytes, and every
+/// Whether the writer takes these fields (PROFILE 6.2): the hashes are 0 to 8
+/// times 20 bytes, kind 2 has a hash and a payload of 1 to 4,096 bytes, and every
 /// field that the kind lacks is zero or empty.
-fn fields_are_right(request: &Request<'_>) -> bool {
-    let Request { kind, fields, .. } = request;
-    hashes_are_whole(request.edition, fields.hashes)
-        && (*kind != Kind::RightsInstallation || content_of(request).may_be_installed())
-        && *fields == own_fields(*kind, fields)
+fn fields_are_right(kind: Kind, fields: &Fields<'_>) -> bool {
+    hashes_are_whole(fields.hashes)
+        && (kind != Kind::RightsInstallation || content_of(fields).may_be_installed())
+        && *fields == own_fields(kind, fields)
 }
 
-/// Whether these are whole hashes, and not more than there is room for.
-fn hashes_are_whole(edition: Edition, hashes: &[u8]) -> bool {
-    hashes.len().is_multiple_of(edition.hash_bytes()) && hashes.len() <= HASH_ROOM
+fn hashes_are_whole(hashes: &[u8]) -> bool {
+    hashes.len().is_multiple_of(HASH_BYTES) && hashes.len() <= HASH_BYTES * MAX_HASHES
 }
 
 /// The fields that the kind has, as they are, with all others zero or empty.
@@ -322,26 +306,15 @@ fn own_fields<'a>(kind: Kind, fields: &Fields<'a>) -> Fields<'a> {
     }
 }
 
-/// The frame of a request whose fields are right.
-fn written(request: &Request<'_>) -> Vec<u8> {
-    let kept = match request.fields.count {
-        Count::NotKept => 0,
-        Count::Kept(_) => KEPT,
-    };
-    let kind = request.kind.number();
-    frame::join(request.edition, kind, VERDICT | kept, &body(request))
-}
-
 /// The body of a request whose fields are right.
-fn body(request: &Request<'_>) -> Vec<u8> {
-    let fields = &request.fields;
-    if request.kind == Kind::HandleListQuery {
-        return list_body(request.edition, fields);
+fn body(kind: Kind, fields: &Fields<'_>) -> Vec<u8> {
+    if kind == Kind::HandleListQuery {
+        return list_body(fields);
     }
     let mut body = fields.handle.to_vec();
-    match request.kind {
+    match kind {
         Kind::InstallationSetup => body.extend(fields.length.to_be_bytes()),
-        Kind::RightsInstallation => content_of(request).write_to(&mut body),
+        Kind::RightsInstallation => content_of(fields).write_to(&mut body),
         Kind::RightsRetrieval | Kind::RekQuery => body.extend(fields.new_handle),
         Kind::RightsEnablement => body.extend(fields.count.number().to_be_bytes()),
         _ => {}
@@ -350,20 +323,18 @@ fn body(request: &Request<'_>) -> Vec<u8> {
 }
 
 /// The body of kind 8: the limit, the hash count and the hashes.
-fn list_body(edition: Edition, fields: &Fields<'_>) -> Vec<u8> {
+fn list_body(fields: &Fields<'_>) -> Vec<u8> {
     let mut body = fields.limit.to_be_bytes().to_vec();
-    body.push(edition.hash_count(fields.hashes));
+    body.push(hash_count(fields.hashes));
     body.extend(fields.hashes);
     body
 }
 
 /// The content that a request of kind 2 carries.
-pub(crate) fn content_of<'a>(request: &Request<'a>) -> Content<'a> {
-    let fields = &request.fields;
+pub(crate) fn content_of<'a>(fields: &Fields<'a>) -> Content<'a> {
     Content {
         key: fields.key,
         count: fields.count,
-        edition: request.edition,
         hashes: fields.hashes,
         payload: fields.payload,
     }

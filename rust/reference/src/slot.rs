@@ -3,18 +3,20 @@
 //!
 //! | bytes | content |
 //! |---|---|
-//! | 0 | place 2 bits, hash count 4 bits, kept 1 bit, long 1 bit |
+//! | 0 | place 2 bits, hash count 4 bits, kept 1 bit, 1 spare bit |
 //! | 1–10 | handle |
 //! | 11–26 | key (REK) |
 //! | 27–28 | count number |
 //! | 29–30 | payload length |
-//! | 31–190 | up to 8 asset hashes of 20 bytes, or up to 5 of 32 with long 1 |
+//! | 31–190 | up to 8 asset hashes of 20 bytes (SHA-1) |
 //! | 191 | zero |
 //! | 192–4287 | payload |
 
+use std::slice::ChunksExact;
+
 use crate::bytes::{all_zero, array_at, u16_at};
-use crate::content::{self, Content};
-use crate::{Count, Edition, Handle, Key, HANDLE_BYTES, HASH_ROOM, KEY_BYTES};
+use crate::content::{self, Content, HASHES_IN_A_RECORD};
+use crate::{Count, Handle, Key, HANDLE_BYTES, HASH_BYTES, KEY_BYTES, MAX_HASHES};
 
 /// The bytes of a slot.
 pub const SLOT_BYTES: usize = 4288;
@@ -25,8 +27,8 @@ pub type SlotBytes = [u8; SLOT_BYTES];
 /// The bit of byte 0 that says that a count is kept.
 const KEPT: u8 = 0b0000_0010;
 
-/// The bit of byte 0 that says that hashes have 32 bytes.
-const LONG: u8 = 0b0000_0001;
+/// The spare bit of byte 0.
+const SPARE: u8 = 0b0000_0001;
 
 const HANDLE_AT: usize = 1;
 const KEY_AT: usize = 11;
@@ -82,15 +84,9 @@ pub fn kept(slot: &SlotBytes) -> bool {
     slot[0] & KEPT != 0
 }
 
-/// Whether the mark of hashes of 32 bytes, the lowest bit of byte 0, is set.
-pub fn long(slot: &SlotBytes) -> bool {
-    slot[0] & LONG != 0
-}
-
-/// The edition of the hashes, by their mark. Where the slot has none, it is the
-/// first.
-pub fn edition(slot: &SlotBytes) -> Edition {
-    Edition::of_mark(long(slot))
+/// Whether the spare bit, the lowest of byte 0, is set.
+pub fn spare(slot: &SlotBytes) -> bool {
+    slot[0] & SPARE != 0
 }
 
 /// The handle bytes. An empty slot has no handle; see [`has_handle`].
@@ -124,7 +120,7 @@ pub fn length(slot: &SlotBytes) -> u16 {
     u16_at(slot, LENGTH_AT)
 }
 
-/// The bytes of as many hashes as the hash count says, at most 160.
+/// The bytes of as many hashes as the hash count says, at most 8.
 pub fn hashes(slot: &SlotBytes) -> &[u8] {
     split_hashes(slot).0
 }
@@ -144,30 +140,22 @@ pub fn has_handle(slot: &SlotBytes, wanted: &Handle) -> bool {
     place(slot) != Place::Empty && handle(slot) == *wanted
 }
 
-/// Whether the slot has some hash of `wanted`, which is whole hashes of
-/// `edition`. A slot without a hash has none of them, and one with hashes of
-/// another length neither: two strings of bytes are equal only if they are
-/// equally long.
-pub fn has_hash_of(slot: &SlotBytes, edition: Edition, wanted: &[u8]) -> bool {
-    let mut wanted = edition.each_hash(wanted);
-    wanted.any(|hash| each_hash(slot).any(|own| own == hash))
-}
-
-/// Whether the slot has no hash, or hashes of this edition.
-pub fn goes_out_in(slot: &SlotBytes, wanted: Edition) -> bool {
-    hash_count(slot) == 0 || edition(slot) == wanted
+/// Whether the slot has some hash of `wanted`, which is whole hashes. A slot
+/// without a hash has none of them.
+pub fn has_hash_of(slot: &SlotBytes, wanted: &[u8]) -> bool {
+    each_hash(wanted).any(|hash| each_hash(hashes(slot)).any(|own| own == hash))
 }
 
 /// Whether the slot is well formed (PROFILE 2.4).
 pub fn well_formed(slot: &SlotBytes) -> bool {
-    count_is_right(slot) && well_formed_but_for_count(slot)
+    !spare(slot) && count_is_right(slot) && well_formed_but_for_count(slot)
 }
 
 /// Whether a slot that is to be turned is well formed by the rules before a
-/// count had its bit (PROFILE 2.7): both low bits of byte 0 are 0, so that hashes
-/// have 20 bytes, and the count number of a right is anything.
+/// count had its bit (PROFILE 2.7): both low bits of byte 0 are spare, and the
+/// count number of a right is anything.
 pub fn well_formed_before_turning(slot: &SlotBytes) -> bool {
-    slot[0] & (KEPT | LONG) == 0
+    slot[0] & (KEPT | SPARE) == 0
         && (holds_a_right(slot) || count_number(slot) == 0)
         && well_formed_but_for_count(slot)
 }
@@ -186,13 +174,10 @@ fn holds_a_right(slot: &SlotBytes) -> bool {
     matches!(place(slot), Place::Enabled | Place::Disabled)
 }
 
-/// Whether all that is no count is well formed. A mark where there are no hashes
-/// is not, so neither is one in an empty or a reserved slot.
+/// Whether all that is no count and no spare bit is well formed.
 fn well_formed_but_for_count(slot: &SlotBytes) -> bool {
     slot[ZERO_AT] == 0
-        && edition(slot)
-            .hashes_in_a_record()
-            .contains(&hash_count(slot))
+        && HASHES_IN_A_RECORD.contains(&hash_count(slot))
         && all_zero(split_hashes(slot).1)
         && all_zero(split_payload(slot).1)
         && well_formed_for_place(slot)
@@ -217,15 +202,14 @@ fn content_is_blank(slot: &SlotBytes) -> bool {
     hash_count(slot) == 0 && all_zero(&key(slot)) && all_zero(&slot[PAYLOAD_AT..])
 }
 
-fn each_hash(slot: &SlotBytes) -> impl Iterator<Item = &[u8]> {
-    edition(slot).each_hash(hashes(slot))
+fn each_hash(hashes: &[u8]) -> ChunksExact<'_, u8> {
+    hashes.chunks_exact(HASH_BYTES)
 }
 
 /// The hash bytes within the count and those beyond it.
 fn split_hashes(slot: &SlotBytes) -> (&[u8], &[u8]) {
     let all = &slot[HASHES_AT..ZERO_AT];
-    let used = edition(slot).hash_bytes() * hash_count(slot);
-    all.split_at(all.len().min(used))
+    all.split_at(all.len().min(HASH_BYTES * hash_count(slot)))
 }
 
 /// The payload bytes within the length and those beyond it.
@@ -241,13 +225,11 @@ pub(crate) fn reserve(slot: &mut SlotBytes, handle: &Handle, length: u16) {
     put(slot, LENGTH_AT, &length.to_be_bytes());
 }
 
-/// Kind 2: enables the record with a content, which has a hash, and so the mark of
-/// its edition; its length becomes the payload's. The slot is reserved, so all that
-/// is not written is 0.
+/// Kind 2: enables the record with a content; its length becomes the payload's.
+/// The slot is reserved, so all that is not written is 0.
 pub(crate) fn fill(slot: &mut SlotBytes, content: &Content<'_>) {
     let length = u16::try_from(content.payload.len()).expect("a payload has at most 4,096 bytes");
-    let edition = content.edition;
-    slot[0] = edition.hash_count(content.hashes) << 2 | u8::from(edition.is_long());
+    slot[0] = content::hash_count(content.hashes) << 2;
     set_place(slot, Place::Enabled);
     put(slot, KEY_AT, &content.key);
     set_count(slot, content.count);
@@ -257,7 +239,7 @@ pub(crate) fn fill(slot: &mut SlotBytes, content: &Content<'_>) {
 }
 
 /// Kinds 3 and 4: disables the record under a new handle, and changes nothing
-/// else; the count's bit and the mark stay as they are.
+/// else; the count's bit stays as it is.
 pub(crate) fn lend(slot: &mut SlotBytes, new_handle: &Handle) {
     set_place(slot, Place::Disabled);
     set_handle(slot, new_handle);
@@ -287,7 +269,6 @@ pub(crate) fn content(slot: &SlotBytes) -> Content<'_> {
     Content {
         key: key(slot),
         count: count(slot),
-        edition: edition(slot),
         hashes: hashes(slot),
         payload: payload(slot),
     }
@@ -315,6 +296,6 @@ fn put(slot: &mut SlotBytes, offset: usize, bytes: &[u8]) {
 const _: () = {
     assert!(HANDLE_AT + HANDLE_BYTES == KEY_AT);
     assert!(KEY_AT + KEY_BYTES == COUNT_AT);
-    assert!(HASHES_AT + HASH_ROOM == ZERO_AT);
+    assert!(HASHES_AT + MAX_HASHES * HASH_BYTES == ZERO_AT);
     assert!(PAYLOAD_AT + crate::MAX_PAYLOAD == SLOT_BYTES);
 };

@@ -22,13 +22,11 @@ pub enum Status {
     NotEnoughSpace = 7,
     /// The count returned would raise the one that was lent.
     CountRaised = 9,
-    /// The right has hashes of the other edition.
-    EditionNeeded = 10,
 }
 
 impl Status {
     /// All statuses, in the order of their numbers.
-    pub const ALL: [Status; 10] = [
+    pub const ALL: [Status; 9] = [
         Status::Success,
         Status::FieldIntegrityVerificationFailed,
         Status::ParameterFailed,
@@ -38,18 +36,16 @@ impl Status {
         Status::UnexpectedRequest,
         Status::NotEnoughSpace,
         Status::CountRaised,
-        Status::EditionNeeded,
     ];
 
-    /// The status of this number; `None` unless it is 0 to 7, 9
-    /// or 10.
+    /// The status of this number; `None` unless it is 0 to 7 or 9.
     pub fn from_number(number: u8) -> Option<Status> {
         Status::ALL
             .into_iter()
             .find(|status| status.number() == number)
     }
 
-    /// The number of this status, 0 to 7, 9 or 10.
+    /// The number of this status, 0 to 7 or 9.
     pub fn number(self) -> u8 {
         self as u8
     }

@@ -3,19 +3,38 @@
 mod common;
 
 use common::{
-    about, blank, body_bytes, call, call_for, for_use, frame_bytes, is_raised, lending,
-    mixed_table, request_bytes, returning, right, OwnFields, COUNTS, FILLER,
+    about, blank, body_bytes, call, call_for, frame_bytes, is_raised, lending, mixed_table,
+    request_bytes, returning, right, setup, OwnFields, FILLER,
 };
 use reference::ReadRequest::{Refused, Request};
 use reference::{read_reply, read_request, slot, table, write_request};
 use reference::{Count, Status, WriterFields};
 use Count::{Kept, NotKept};
 
+/// Counts that differ in their bit, in each byte of their number, or in both.
+const COUNTS: [Count; 7] = [
+    NotKept,
+    Kept(0),
+    Kept(1),
+    Kept(0xFF),
+    Kept(0x100),
+    Kept(0x8000),
+    Kept(0xFFFF),
+];
+
 fn installing(handle: u8, count: Count) -> OwnFields {
     OwnFields {
         count,
         ..right(handle, 2, 5)
     }
+}
+
+/// A table of one slot with a right for use under 1, which has this count.
+fn table_with(count: Count) -> Vec<u8> {
+    let mut table = blank(1);
+    call_for(0, &mut table, 1, &setup(1, 5));
+    call_for(0, &mut table, 2, &installing(1, count));
+    table
 }
 
 /// The count in the one slot of a table, and its bytes.
@@ -48,7 +67,7 @@ fn a_bit_and_a_number_say_a_count_or_none() {
 /// the next reply still says that a count is kept.
 #[test]
 fn a_count_that_is_used_up_stays_used_up() {
-    let mut table = for_use(Kept(1));
+    let mut table = table_with(Kept(1));
     assert_eq!(held(&table), as_held(Kept(1)));
     call_for(0, &mut table, 4, &lending(1, 2));
     call_for(0, &mut table, 5, &returning(2, Kept(0)));
@@ -65,7 +84,7 @@ fn a_count_that_is_used_up_stays_used_up() {
 #[test]
 fn installation_stores_the_count_with_its_bit() {
     for count in COUNTS {
-        let table = for_use(count);
+        let table = table_with(count);
         assert_eq!(held(&table), as_held(count));
         assert_eq!(table[0] & !0b11, 0x88, "place and hash count");
     }
@@ -77,7 +96,7 @@ fn installation_stores_the_count_with_its_bit() {
 fn a_return_stores_the_count_with_its_bit_once() {
     for before in COUNTS {
         for after in COUNTS {
-            let mut table = for_use(before);
+            let mut table = table_with(before);
             let untouched = table.clone();
             call_for(0, &mut table, 5, &returning(1, after));
             assert!(table == untouched, "{before:?}, {after:?}: enabled");
@@ -103,13 +122,13 @@ fn a_return_stores_the_count_with_its_bit_once() {
 fn lending_keeps_the_count_and_removal_clears_it() {
     for count in COUNTS {
         for kind in [3, 4] {
-            let mut table = for_use(count);
+            let mut table = table_with(count);
             call_for(0, &mut table, kind, &lending(1, 2));
             assert_eq!(held(&table), as_held(count), "kind {kind}");
             call_for(0, &mut table, 6, &about(2));
             assert!(table == blank(1));
         }
-        let mut table = for_use(count);
+        let mut table = table_with(count);
         call_for(0, &mut table, 6, &about(1));
         assert!(table == blank(1));
     }
@@ -129,7 +148,7 @@ fn replies_say_the_count_with_its_bit() {
             (9, about(1), bit),
         ];
         for (kind, fields, second) in rows {
-            let reply = call_for(0, &mut for_use(count), kind, &fields);
+            let reply = call_for(0, &mut table_with(count), kind, &fields);
             assert_eq!(reply[1], second, "kind {kind}, {count:?}");
             let told = read_reply(&reply).expect("a reply").fields.count;
             let expected = if kind == 3 || kind == 9 {
@@ -141,7 +160,7 @@ fn replies_say_the_count_with_its_bit() {
         }
         // refusals have no bit, whatever the record's count
         for (kind, fields) in [(3, lending(1, 1)), (3, lending(9, 2)), (9, about(9))] {
-            let given = call(&mut for_use(count), &frame_bytes(kind, &fields));
+            let given = call(&mut table_with(count), &frame_bytes(kind, &fields));
             assert!(given.reply[1] < 0x80 && given.reply.len() == 4);
         }
     }
@@ -253,7 +272,7 @@ fn a_count_without_its_bit_is_2_in_its_order() {
 /// The frame that the writer writes, or the number with which it refuses.
 fn written(kind: u8, fields: &WriterFields<'_>) -> Result<Vec<u8>, u16> {
     let mut out = vec![FILLER; 200];
-    match write_request(1, kind, fields, &mut out) {
+    match write_request(kind, fields, &mut out) {
         0 => {
             let body = usize::from(u16::from_be_bytes([out[2], out[3]]));
             let rest = out.split_off(4 + body);
@@ -262,11 +281,7 @@ fn written(kind: u8, fields: &WriterFields<'_>) -> Result<Vec<u8>, u16> {
         }
         number => {
             assert!(out.iter().all(|&byte| byte == FILLER));
-            assert_eq!(
-                write_request(1, kind, fields, &mut []),
-                number,
-                "before 201"
-            );
+            assert_eq!(write_request(kind, fields, &mut []), number, "before 201");
             Err(number)
         }
     }
@@ -307,7 +322,7 @@ fn the_writer_takes_a_count_with_its_bit() {
 #[test]
 fn a_slot_of_every_count_is_read_as_it_was_written() {
     for count in COUNTS {
-        let mut table = for_use(count);
+        let mut table = table_with(count);
         let reply = call_for(0, &mut table, 3, &lending(1, 2));
         let fields = read_reply(&reply).expect("a reply").fields;
         let content = right(1, 2, 5);

@@ -29,7 +29,6 @@ fn as_installed(fields: &OwnFields) -> Right {
         handle: fields.handle,
         key: fields.key,
         count: fields.count,
-        edition: fields.edition,
         hashes: fields.hashes.clone(),
         payload: fields.payload.clone(),
     }

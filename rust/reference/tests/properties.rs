@@ -8,8 +8,8 @@ use random::Rng;
 use reference::ledger::{agrees, Ledger, Right, Standing};
 use reference::ReadRequest::{NoFrame, Refused, Request};
 use reference::{read_reply, read_request, salvage, turn, well_formed, write_request};
-use reference::{Count, CountsTold, Edition, Kind, Reply, Tally};
-use reference::{MAX_SLOTS, REPLY_ROOM, SLOT_BYTES};
+use reference::{Count, CountsTold, Fields, Kind, Reply, Tally};
+use reference::{HASH_BYTES, MAX_SLOTS, REPLY_ROOM, SLOT_BYTES};
 use std::collections::BTreeSet;
 
 /// A table with its history, and the counts that it told last.
@@ -53,8 +53,6 @@ impl Card {
         let reply = read_reply(&given.reply).expect("the reply reader accepts it");
         let status = reply.status.number();
         assert_eq!(reply.kind, frame[0] & 31);
-        let version = if frame[0] >> 5 == 2 { 2 } else { 1 };
-        assert_eq!(reply.edition.version(), version);
         if status != 0 {
             assert!(self.table == before, "status {status} changes nothing");
         }
@@ -63,7 +61,7 @@ impl Card {
             Refused(refusal) => assert_eq!(reply.status, refusal),
             Request(request) => {
                 if status == 0 {
-                    self.assert_reply_as_told(&reply, &request);
+                    self.assert_reply_as_told(&reply, request.kind, &request.fields);
                 }
                 self.ledger.tell(&request, status);
             }
@@ -75,14 +73,13 @@ impl Card {
     }
 
     /// A success tells what the history, before the request, knows.
-    fn assert_reply_as_told(&self, reply: &Reply<'_>, request: &reference::Request<'_>) {
-        let (told, fields) = (reply.fields, &request.fields);
-        match request.kind {
+    fn assert_reply_as_told(&self, reply: &Reply<'_>, kind: Kind, fields: &Fields<'_>) {
+        let told = reply.fields;
+        match kind {
             Kind::RightsRetrieval => {
                 let right = self.right_for_use(&fields.handle);
                 assert_eq!((told.key, told.count), (right.key, right.count));
                 assert_eq!(told.hashes, right.hashes);
-                assert!(told.hashes.is_empty() || right.edition == request.edition);
                 assert_eq!(told.payload, right.payload);
             }
             Kind::RekQuery => assert_eq!(told.key, self.right_for_use(&fields.handle).key),
@@ -91,19 +88,18 @@ impl Card {
                 assert_eq!(told.count, right.count);
                 assert_eq!(told.payload, right.payload);
             }
-            Kind::HandleListQuery => self.assert_list_as_told(reply, request),
+            Kind::HandleListQuery => self.assert_list_as_told(reply, fields),
             _ => assert_eq!(told, reference::ReplyFields::default()),
         }
     }
 
-    fn assert_list_as_told(&self, reply: &Reply<'_>, request: &reference::Request<'_>) {
-        let fields = &request.fields;
+    fn assert_list_as_told(&self, reply: &Reply<'_>, fields: &Fields<'_>) {
         let listed = reply.fields.handles.chunks(10);
         let set: BTreeSet<&[u8]> = listed.clone().collect();
         assert_eq!(set.len(), listed.len(), "each once");
         let wanted: BTreeSet<&[u8]> = self
             .rights_for_use()
-            .filter(|right| fields.hashes.is_empty() || share_a_hash(right, request))
+            .filter(|right| fields.hashes.is_empty() || share_a_hash(right, fields.hashes))
             .map(|right| right.handle.as_slice())
             .collect();
         let fitting = match fields.limit {
@@ -127,13 +123,11 @@ impl Card {
     }
 }
 
-fn share_a_hash(right: &Right, request: &reference::Request<'_>) -> bool {
-    let of = |edition: Edition, bytes: &[u8]| -> BTreeSet<Vec<u8>> {
-        let hashes = bytes.chunks(edition.hash_bytes());
-        hashes.map(<[u8]>::to_vec).collect()
+fn share_a_hash(right: &Right, hashes: &[u8]) -> bool {
+    let of = |bytes: &[u8]| -> BTreeSet<Vec<u8>> {
+        bytes.chunks(HASH_BYTES).map(<[u8]>::to_vec).collect()
     };
-    let wanted = of(request.edition, request.fields.hashes);
-    !of(right.edition, &right.hashes).is_disjoint(&wanted)
+    !of(&right.hashes).is_disjoint(&of(hashes))
 }
 
 /// Every status that a kind can have (PROFILE 4.2, 5); 0 stands for the kinds
@@ -143,7 +137,7 @@ fn statuses_by_kind() -> BTreeSet<(u8, u8)> {
         (0, &[2, 3]),
         (1, &[0, 1, 2, 5, 7]),
         (2, &[0, 1, 2, 4, 6, 7]),
-        (3, &[0, 1, 2, 4, 5, 6, 10]),
+        (3, &[0, 1, 2, 4, 5, 6]),
         (4, &[0, 1, 2, 4, 5, 6]),
         (5, &[0, 1, 2, 4, 6, 9]),
         (6, &[0, 1, 2, 4, 6]),
@@ -189,8 +183,7 @@ fn kept(right: &Right) -> (&[u8], &[u8], &[u8]) {
     (&right.key, &right.hashes, &right.payload)
 }
 
-/// Wears some bytes of a table; and makes an old one of it, without the bits of its
-/// counts and with as many hashes of 20 bytes as it had of any length.
+/// Wears some bytes of a table, and takes the bits of its counts from it.
 fn worn_and_old(rng: &mut Rng, table: &[u8]) -> [Vec<u8>; 2] {
     let mut worn = table.to_vec();
     for _ in 0..rng.below(4) {
@@ -199,9 +192,7 @@ fn worn_and_old(rng: &mut Rng, table: &[u8]) -> [Vec<u8>; 2] {
     }
     let mut old = table.to_vec();
     for slot in old.chunks_mut(SLOT_BYTES) {
-        slot[0] &= !3;
-        let used = 31 + 20 * usize::from(slot[0] >> 2 & 15);
-        slot[used..191].fill(0);
+        slot[0] &= !2;
     }
     [worn, old]
 }
@@ -246,19 +237,17 @@ fn written_requests_read_back_to_their_fields() {
         let fields = own.lent();
         let frame = frame_bytes(kind, &own);
         let mut buffer = vec![FILLER; frame.len() + rng.below(4)];
-        let version = own.edition.version();
-        assert_eq!(write_request(version, kind, &own.handed(), &mut buffer), 0);
+        assert_eq!(write_request(kind, &own.handed(), &mut buffer), 0);
         assert_eq!(buffer[..frame.len()], frame);
         assert!(buffer[frame.len()..].iter().all(|&byte| byte == FILLER));
         let Request(request) = read_request(&frame) else {
             panic!("{frame:02x?} is a request");
         };
         assert_eq!(request.kind.number(), kind);
-        assert_eq!(request.edition, own.edition);
         assert_eq!(request.fields, fields);
 
         let mut short = vec![FILLER; rng.below(frame.len())];
-        assert_eq!(write_request(version, kind, &own.handed(), &mut short), 201);
+        assert_eq!(write_request(kind, &own.handed(), &mut short), 201);
         assert!(short.iter().all(|&byte| byte == FILLER));
     }
 }
@@ -277,8 +266,7 @@ fn frames_that_read_as_requests_are_written_to_the_same_bytes() {
             continue;
         };
         let mut written = vec![0; frame.len()];
-        let (version, kind) = (request.edition.version(), request.kind.number());
-        let number = write_request(version, kind, &request.fields.into(), &mut written);
+        let number = write_request(request.kind.number(), &request.fields.into(), &mut written);
         assert_eq!(number, 0);
         if frame[1] == 0 {
             assert!(request.kind >= Kind::HandleListQuery);
@@ -362,8 +350,8 @@ fn readers_take_any_bytes() {
         let length = rng.below(48);
         let mut frame = rng.bytes(length);
         if length >= 4 && !rng.one_in(8) {
-            frame[0] = rng.pick(&[0x20, 0x40]) | frame[0] & 15;
-            frame[1] = rng.pick(&[0, 0, 1, 8, 9, 10, 0x80, 0x80, 0x81]);
+            frame[0] = 0x20 | frame[0] & 15;
+            frame[1] = rng.pick(&[0, 0, 1, 8, 9, 0x80, 0x80, 0x81]);
             frame[2] = 0;
             frame[3] = (length - 4) as u8;
         }
@@ -372,7 +360,6 @@ fn readers_take_any_bytes() {
         match read_reply(&frame) {
             Ok(reply) => {
                 assert!(whole && reply.kind == frame[0] & 31);
-                assert_eq!(reply.edition.version(), frame[0] >> 5);
                 assert_eq!(reply.status.number(), frame[1] & 0x7F);
                 assert!(frame[1] & 0x7F == 0 || length == 4);
                 assert_eq!(reply.fields.count.is_kept(), frame[1] & 0x80 != 0);

@@ -3,13 +3,34 @@
 mod common;
 
 use common::{
-    about, body_bytes, call, call_for, for_use, frame_bytes, is_raised, lending, mixed_table,
-    request_bytes, returning, Given, COUNTS,
+    about, blank, body_bytes, call, call_for, frame_bytes, is_raised, lending, mixed_table,
+    request_bytes, returning, right, setup, Given, OwnFields,
 };
 use reference::Count::{self, Kept, NotKept};
 use reference::Status;
 
-/// A card of one slot: a right with this count, lent under ten bytes 2.
+/// None, both ends of what a count can be, and numbers of one byte and of two.
+const COUNTS: [Count; 8] = [
+    NotKept,
+    Kept(0),
+    Kept(1),
+    Kept(0xFF),
+    Kept(0x100),
+    Kept(0x8000),
+    Kept(0xFFFE),
+    Kept(0xFFFF),
+];
+
+/// A card of one slot: a right with this count, for use under ten bytes 1.
+fn for_use(count: Count) -> Vec<u8> {
+    let mut table = blank(1);
+    call_for(0, &mut table, 1, &setup(1, 5));
+    let fields = right(1, 2, 5);
+    call_for(0, &mut table, 2, &OwnFields { count, ..fields });
+    table
+}
+
+/// The same card when the right is lent, under ten bytes 2.
 fn lent(count: Count) -> Vec<u8> {
     let mut table = for_use(count);
     call_for(0, &mut table, 4, &lending(1, 2));
@@ -165,7 +186,7 @@ fn whoever_has_the_handle_can_return_the_right() {
 fn status_9_is_a_status_and_8_is_none() {
     assert_eq!(Status::CountRaised.number(), 9);
     assert_eq!(Status::from_number(9), Some(Status::CountRaised));
-    for number in [8].into_iter().chain(11..=255) {
+    for number in [8].into_iter().chain(10..=255) {
         assert_eq!(Status::from_number(number), None);
     }
 }

@@ -2,7 +2,7 @@
 
 mod common;
 
-use common::{body_bytes, frame_bytes, request_bytes, request_bytes_in, right, OwnFields, FILLER};
+use common::{body_bytes, frame_bytes, request_bytes, right, OwnFields, FILLER};
 use reference::ReadRequest::{NoFrame, Refused, Request};
 use reference::{read_request, write_request, Count, Fields, Kind, Status, WriterFields};
 
@@ -79,7 +79,7 @@ fn samples() -> Vec<(u8, Fields<'static>, Vec<u8>)> {
 fn each_kind_is_written_and_read_byte_for_byte() {
     for (kind, fields, frame) in samples() {
         let mut buffer = vec![FILLER; frame.len() + 5];
-        assert_eq!(write_request(1, kind, &fields.into(), &mut buffer), 0);
+        assert_eq!(write_request(kind, &fields.into(), &mut buffer), 0);
         assert_eq!(buffer[..frame.len()], frame, "kind {kind}");
         assert_eq!(buffer[frame.len()..], [FILLER; 5]);
         let Request(request) = read_request(&frame) else {
@@ -95,11 +95,11 @@ fn a_buffer_that_is_shorter_is_201() {
     for (kind, fields, frame) in samples() {
         for room in [0, 4, frame.len() - 1] {
             let mut buffer = vec![FILLER; room];
-            assert_eq!(write_request(1, kind, &fields.into(), &mut buffer), 201);
+            assert_eq!(write_request(kind, &fields.into(), &mut buffer), 201);
             assert_eq!(buffer, vec![FILLER; room]);
         }
         let mut buffer = vec![0; frame.len()];
-        assert_eq!(write_request(1, kind, &fields.into(), &mut buffer), 0);
+        assert_eq!(write_request(kind, &fields.into(), &mut buffer), 0);
     }
 }
 
@@ -107,13 +107,9 @@ fn a_buffer_that_is_shorter_is_201() {
 /// 202 is tested before 201.
 fn assert_202(kind: u8, fields: &WriterFields<'_>) {
     let mut buffer = vec![FILLER; 5000];
-    assert_eq!(
-        write_request(1, kind, fields, &mut buffer),
-        202,
-        "kind {kind}"
-    );
+    assert_eq!(write_request(kind, fields, &mut buffer), 202, "kind {kind}");
     assert!(buffer.iter().all(|&byte| byte == FILLER));
-    assert_eq!(write_request(1, kind, fields, &mut []), 202, "kind {kind}");
+    assert_eq!(write_request(kind, fields, &mut []), 202, "kind {kind}");
 }
 
 #[test]
@@ -152,7 +148,7 @@ fn a_field_that_the_kind_lacks_is_202() {
             let mut fields = blank_fields(kind);
             set(&mut fields);
             let expected = if kinds.contains(&kind) { 0 } else { 202 };
-            let number = write_request(1, kind, &fields, &mut [0; 100]);
+            let number = write_request(kind, &fields, &mut [0; 100]);
             assert_eq!(number, expected, "{name} in kind {kind}");
             if expected == 202 {
                 assert_202(kind, &fields);
@@ -161,24 +157,21 @@ fn a_field_that_the_kind_lacks_is_202() {
     }
 }
 
-/// A multiple of 20 in version 1 and of 32 in version 2, and in no other version.
 #[test]
-fn hash_bytes_are_a_multiple_of_a_hash_up_to_160() {
+fn hash_bytes_are_a_multiple_of_20_up_to_160() {
     let bytes = [0; 200];
-    for (version, kind) in (0..=255).flat_map(|version| [(version, 2), (version, 8)]) {
+    for kind in [2, 8] {
         for length in 0..=200 {
             let fields = WriterFields {
                 hashes: &bytes[..length],
                 ..blank_fields(kind)
             };
-            let whole = match version {
-                1 => length % 20 == 0,
-                2 => length % 32 == 0,
-                _ => false,
-            };
-            let right = whole && length <= 160 && (length > 0 || kind == 8);
-            let number = write_request(version, kind, &fields, &mut [0; 250]);
-            assert_eq!(number, if right { 0 } else { 202 }, "{version}, {length}");
+            let none_needed = kind == 8;
+            if length % 20 == 0 && length <= 160 && (length > 0 || none_needed) {
+                assert_eq!(write_request(kind, &fields, &mut [0; 250]), 0);
+            } else {
+                assert_202(kind, &fields);
+            }
         }
     }
 }
@@ -191,7 +184,7 @@ fn a_payload_of_kind_2_is_1_to_4096_bytes() {
             payload: &bytes[..length],
             ..blank_fields(2)
         };
-        assert_eq!(write_request(1, 2, &fields, &mut [0; 4400]), number);
+        assert_eq!(write_request(2, &fields, &mut [0; 4400]), number);
     }
 }
 
@@ -206,18 +199,15 @@ fn an_installation_without_a_hash_is_202() {
         let frame = frame_bytes(2, &installation);
         for room in [0, 4, 32, frame.len() - 1, frame.len(), frame.len() + 20] {
             let mut buffer = vec![FILLER; room];
-            assert_eq!(
-                write_request(1, 2, &installation.handed(), &mut buffer),
-                202
-            );
+            assert_eq!(write_request(2, &installation.handed(), &mut buffer), 202);
             assert!(buffer.iter().all(|&byte| byte == FILLER));
         }
         assert_eq!(read_request(&frame), PARAMETER_FAILED);
     }
     let query = WriterFields::default();
     let mut frame = [FILLER; 7];
-    assert_eq!(write_request(1, 8, &query, &mut frame[1..]), 201);
-    assert_eq!(write_request(1, 8, &query, &mut frame), 0);
+    assert_eq!(write_request(8, &query, &mut frame[1..]), 201);
+    assert_eq!(write_request(8, &query, &mut frame), 0);
     assert_eq!(frame, [0x28, 0x80, 0, 3, 0, 0, 0]);
 }
 
@@ -229,7 +219,7 @@ fn the_writer_leaves_the_length_of_kind_1_to_the_agent() {
             ..Fields::default()
         };
         let mut frame = [0; 16];
-        assert_eq!(write_request(1, 1, &fields.into(), &mut frame), 0);
+        assert_eq!(write_request(1, &fields.into(), &mut frame), 0);
         assert!(matches!(read_request(&frame), Request(r) if r.fields == fields));
     }
 }
@@ -244,18 +234,16 @@ fn tests_for_all_kinds_come_in_order() {
         // version or zero bits, with every later fault as well
         (&[0x00, 0x00, 0, 0], Parameter),
         (&[0x01, 0x00, 0, 0], Parameter),
-        (&[0x61, 0x00, 0, 0], Parameter),
+        (&[0x41, 0x00, 0, 0], Parameter),
         (&[0xE1, 0x80, 0, 0], Parameter),
         (&[0x2A, 0x01, 0, 0], Parameter),
         (&[0x3F, 0xC0, 0, 0], Parameter),
         (&[0x2A, 0x40, 0, 0], Parameter),
         (&[0x26, 0x40, 0, 0], Parameter),
         (&[0x22, 0x20, 0, 0], Parameter),
-        (&[0x65, 0x40, 0, 0], Parameter),
-        (&[0x60, 0x80, 0, 0], Parameter),
-        (&[0x4A, 0x40, 0, 0], Parameter),
+        (&[0x45, 0x40, 0, 0], Parameter),
+        (&[0x40, 0x80, 0, 0], Parameter),
         // the kind
-        (&[0x4A, 0x00, 0, 0], Unsupported),
         (&[0x20, 0x00, 0, 0], Unsupported),
         (&[0x2A, 0x80, 0, 0], Unsupported),
         (&[0x3F, 0x00, 0, 1, 5], Unsupported),
@@ -447,7 +435,7 @@ fn a_missing_hash_comes_in_its_order() {
             assert_eq!(read_request(&frame), PARAMETER_FAILED, "a zero bit");
         }
         let mut frame = request_bytes(2, 0, &body);
-        frame[0] = 0x62;
+        frame[0] = 0x42;
         assert_eq!(read_request(&frame), PARAMETER_FAILED, "the version");
     }
     for second in [0xC0, 0] {
@@ -459,27 +447,12 @@ fn a_missing_hash_comes_in_its_order() {
 #[test]
 fn field_tests_of_kind_8() {
     for hash_count in 0..=255 {
-        let count = usize::from(hash_count);
-        for rest in [
-            0,
-            20,
-            32,
-            160,
-            179,
-            180,
-            181,
-            192,
-            200,
-            20 * count,
-            32 * count,
-        ] {
+        for rest in [0, 20, 160, 179, 180, 181, 200, 20 * usize::from(hash_count)] {
             let body = [&[0, 0, hash_count][..], &vec![0; rest]].concat();
-            for (version, length, most) in [(1, 20, 8), (2, 32, 5)] {
-                let right = hash_count <= most && rest == length * count;
-                match read_request(&request_bytes_in(version, 8, 0x80, &body)) {
-                    Request(request) => assert!(right && request.fields.hashes.len() == rest),
-                    refused => assert!(!right && refused == PARAMETER_FAILED),
-                }
+            let right = hash_count <= 8 && rest == 20 * usize::from(hash_count);
+            match read_request(&request_bytes(8, 0x80, &body)) {
+                Request(request) => assert!(right && request.fields.hashes.len() == rest),
+                refused => assert!(!right && refused == PARAMETER_FAILED),
             }
         }
     }
@@ -499,7 +472,7 @@ fn a_frame_is_4_plus_its_body_length() {
 fn the_longest_request_is_written_and_read() {
     let fields: OwnFields = right(3, 8, 4096);
     let mut frame = vec![0; 4289];
-    assert_eq!(write_request(1, 2, &fields.handed(), &mut frame), 0);
+    assert_eq!(write_request(2, &fields.handed(), &mut frame), 0);
     assert_eq!(frame, frame_bytes(2, &fields));
     assert!(matches!(read_request(&frame), Request(r) if r.fields == fields.lent()));
 }

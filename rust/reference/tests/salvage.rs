@@ -193,9 +193,7 @@ fn record(place: Place, handle: u8) -> Vec<u8> {
 /// What is wrong, and the slot of the mixed table, the offset and the byte that make
 /// it wrong: each breaks one rule (PROFILE 2.4).
 const RULES: &[(&str, usize, usize, u8)] = &[
-    ("a mark with 8 hashes", 2, 0, 0xE3),
-    ("a reservation with the mark", 1, 0, 0x41),
-    ("an empty slot with the mark", 3, 0, 0x01),
+    ("the spare bit", 0, 0, 0x8B),
     ("a count without its bit", 0, 0, 0x88),
     ("hash count 9", 2, 0, 0xE6),
     ("a hash byte beyond the count", 4, 51, 1),

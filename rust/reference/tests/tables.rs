@@ -5,11 +5,11 @@ mod common;
 
 use common::{
     about, blank, call, call_for, mixed_table, mixed_without_hashes, returning, setup, tally_of,
-    FILLER, HASH_BYTES,
+    FILLER,
 };
 use reference::slot::{self, Place};
 use reference::{listing, table, well_formed, Count};
-use reference::{MAX_SLOTS, REPLY_ROOM, SLOT_BYTES};
+use reference::{HASH_BYTES, MAX_SLOTS, REPLY_ROOM, SLOT_BYTES};
 
 /// The slots of the mixed table.
 const ENABLED: usize = 0;
@@ -72,10 +72,8 @@ fn accessors_read_the_mixed_table() {
 #[test]
 fn each_rule_alone_is_103() {
     let rows: &[(&str, &[(usize, u8)])] = &[
-        ("mark with 6 hashes", &[(DISABLED, 0xDB)]),
-        ("mark with 8 hashes", &[(DISABLED, 0xE3)]),
-        ("mark with 15 hashes", &[(DISABLED, 0xFF)]),
-        ("mark of a reserved slot", &[(RESERVED, 0x41)]),
+        ("spare bit", &[(ENABLED, 0x8B)]),
+        ("spare bit of a reserved slot", &[(RESERVED, 0x41)]),
         ("count without its bit, enabled", &[(ENABLED, 0x88)]),
         ("count without its bit, disabled", &[(DISABLED, 0xE0)]),
         ("low byte of a count", &[(SECOND + 28, 1)]),
@@ -94,7 +92,7 @@ fn each_rule_alone_is_103() {
             "payload beyond a lowered length",
             &[(DISABLED + 29, 0x0F), (DISABLED + 30, 0xFF)],
         ),
-        ("empty with the mark", &[(EMPTY, 1)]),
+        ("empty with the spare bit", &[(EMPTY, 1)]),
         ("empty with the count's bit", &[(EMPTY, 2)]),
         (
             "empty with a count and its bit",
@@ -160,7 +158,7 @@ fn counts_of_rights() {
             table[0] |= 2;
             assert!(well_formed(&table), "a kept count of {number}");
             table[0] |= 1;
-            assert_refused(103, &table, "the mark without a hash");
+            assert_refused(103, &table, "the spare bit");
         }
     }
 }

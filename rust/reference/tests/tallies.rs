@@ -309,10 +309,9 @@ fn a_table_of_a_wrong_length_has_no_tally() {
 #[test]
 fn a_table_that_is_not_well_formed_has_no_tally() {
     for slot in 0..5 {
-        // nine hashes, or a byte that is always 0
-        for (at, bits) in [(0, 9 << 2), (191, 1)] {
+        for at in [0, 191] {
             let mut table = mixed_table();
-            table[slot * SLOT_BYTES + at] |= bits;
+            table[slot * SLOT_BYTES + at] |= 1;
             assert_not_worked_out(&table, 103);
         }
     }

@@ -5,13 +5,13 @@ mod common;
 
 use common::{
     about, blank, call, call_for, call_from, frame_bytes, lending, mixed_table,
-    mixed_without_hashes, request_bytes, request_bytes_in, returning, right, setup, take_hashes,
-    Asker, OwnFields, HASH_BYTES, NEW,
+    mixed_without_hashes, request_bytes, returning, right, setup, take_hashes, Asker, OwnFields,
+    NEW,
 };
 use random::Rng;
 use reference::slot::{self, SlotBytes};
 use reference::{read_reply, table, well_formed, write_request, Count, Key, Place};
-use reference::{MAX_SLOTS, SLOT_BYTES};
+use reference::{HASH_BYTES, MAX_SLOTS, SLOT_BYTES};
 use std::collections::BTreeSet;
 
 /// The handles of the mixed tables, and one that is in no slot.
@@ -151,7 +151,7 @@ fn they_are_retrieved_like_any_other_and_installed_nowhere() {
         handle: [RESERVED; 10],
         ..one
     };
-    assert_eq!(write_request(1, 2, &again.handed(), &mut [0; 100]), 202);
+    assert_eq!(write_request(2, &again.handed(), &mut [0; 100]), 202);
 }
 
 /// A return stores the count, which is at most 0x103, and once only.
@@ -220,10 +220,8 @@ fn assert_found_by_course(table: &[u8]) -> usize {
     let mut asked = 0;
     for slot in table::slots(table) {
         if slot::place(slot) == Place::Enabled {
-            let edition = slot::edition(slot);
-            for hash in slot::hashes(slot).chunks(edition.hash_bytes()) {
+            for hash in slot::hashes(slot).chunks(HASH_BYTES) {
                 let query = OwnFields {
-                    edition,
                     hashes: hash.to_vec(),
                     ..OwnFields::default()
                 };
@@ -265,18 +263,16 @@ fn from_a_blank_table_every_right_is_found_by_course() {
 /// Whether a frame is an installation without a hash that is right but for that:
 /// with one hash more this table takes it.
 fn would_be_installed(table: &[u8], frame: &[u8]) -> bool {
-    if frame.len() < 34 || frame[0] & 31 != 2 || frame[32] != 0 {
+    if frame.len() < 34 || frame[0] != 0x22 || frame[32] != 0 {
         return false;
     }
-    let version = frame[0] >> 5;
-    let hash = vec![1; if version == 2 { 32 } else { 20 }];
     let mut body = frame[4..].to_vec();
     body[28] = 0x10;
-    body.splice(29..29, hash);
-    let hashed = request_bytes_in(version, 2, frame[1], &body);
+    body.splice(29..29, [1; HASH_BYTES]);
+    let hashed = request_bytes(2, frame[1], &body);
     let given = call(&mut table.to_vec(), &hashed);
     frame.len() - 4 == usize::from(u16::from_be_bytes([frame[2], frame[3]]))
-        && (given.number, &given.reply[..2]) == (0, &[frame[0], 0])
+        && (given.number, &given.reply[..2]) == (0, &[0x22, 0])
 }
 
 /// On tables that hold rights without a hash no other one comes, though all of

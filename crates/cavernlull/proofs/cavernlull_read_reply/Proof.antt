@@ -11,24 +11,20 @@ read-reply-requires c κs = search rules
 number-of-requires : tie.Need-number-of-requires
 number-of-requires c κs = search rules
 
-version-in-requires : tie.Need-version-in-requires
-version-in-requires c κs = search rules
-
 numbers-of-requires : tie.Need-numbers-of-requires
 numbers-of-requires c κs =
-    let read = c.before.before.before.before in
+    let read = c.before.before.before in
     let start = read.before.before in
     reads_small start.args.frame.now _ read.read-reply.ensures
 
 returns : tie.Need-returns
 returns c =
-    let version = c.before in
-    let accepted = version.before.before in
+    let accepted = c.before.before in
     let numbered = accepted.before in
     let read = numbered.before in
     let start = read.before.before in
     read_into start.args.frame.now start.args.key.now start.args.fields.now _ read.read-reply.ensures _ numbered.number_of_lem.ensures accepted.if1.true _
-    version.version-in.ensures _ c.Numbers-of.ensures
+    c.Numbers-of.ensures
 
 returns-2 : tie.Need-returns-2
 returns-2 c =
@@ -38,4 +34,4 @@ returns-2 c =
 pub cavernlull-read-reply-spec : {M : Type 1} → statement M
 cavernlull-read-reply-spec =
     tie.close
-    (tie.spec read-reply-requires number-of-requires version-in-requires numbers-of-requires returns returns-2)
+    (tie.spec read-reply-requires number-of-requires numbers-of-requires returns returns-2)

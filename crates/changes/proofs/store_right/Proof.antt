@@ -28,7 +28,7 @@ install-requires : tie.Need-install-requires
 install-requires c κs =
     let start = c.before.before.before in
     let i = start.args.i in
-    (lent_placed start.args.t.now i start.requires.0 1 (4288 * i + 4288 - 4288 * i) (omega arith) start.requires.1, start.requires.2, start.requires.3, start.requires.4, start.requires.5)
+    (lent_placed start.args.t.now i start.requires.0 1 (4288 * i + 4288 - 4288 * i) (omega arith) start.requires.1, start.requires.2, start.requires.3, start.requires.4)
 
 same_length : tie.Need-same-length
 same_length c = search rules
@@ -42,7 +42,7 @@ returns c =
     let t = a.t.now in
     let i = a.i in
     let k = 4288 * i + 4288 - 4288 * i in
-    changed t i start.requires.0 (below_256 t known.slice-known.given) (λ _. taken a.h (enabled (right_from a.edition a.key a.count a.hashes a.n a.src.now a.at)))
+    changed t i start.requires.0 (below_256 t known.slice-known.given) (λ _. taken a.h (enabled (right_from a.key a.count a.hashes a.n a.src.now a.at)))
     back.install.new.0 k (omega arith) back.install.ensures
 
 pub store-right-spec : {M : Type 1} → statement M

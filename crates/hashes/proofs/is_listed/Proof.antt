@@ -1,8 +1,6 @@
 -- `hashes::is_listed` meets its contract, place by place. Assumes nothing.
 use mathlib.Core.Path.{sym, ap, ◌∙◌}
-use mathlib.Core.List.{map}
 use native.Mathlib.Omega.{arith}
-use lib.ListN.{take, length-map}
 use Rattle.slots.specs.Places.{place_number}
 use Rattle.hashes.proofs.Querying.{not_listed, listed_all, listed_some}
 use borrow.Author.Rules.{rules}
@@ -30,29 +28,28 @@ enum-told-4 c = search rules
 returns : tie.Need-returns
 returns c =
     let a = c.before.before.before.before.before.args in
-    listed_all a.s.now (map (take a.width) a.q.now) (sym c.before.before.before.place_of.ensures ∙ ap place_number c.before.enum_told.given.1) (length-map a.q.now (take a.width) ∙ c.if1.true)
+    listed_all a.s.now a.q.now (sym c.before.before.before.place_of.ensures ∙ ap place_number c.before.enum_told.given.1) c.if1.true
 
 returns-2 : tie.Need-returns-2
 returns-2 c =
     let a = c.before.before.before.before.before.before.args in
-    listed_some a.s.now (map (take a.width) a.q.now) _
-    (sym c.before.before.before.before.place_of.ensures ∙ ap place_number c.before.before.enum_told.given.1)
-    (rw (length-map a.q.now (take a.width)) (omega arith)) c.has_some.ensures
+    listed_some a.s.now a.q.now _
+    (sym c.before.before.before.before.place_of.ensures ∙ ap place_number c.before.before.enum_told.given.1) (omega arith) c.has_some.ensures
 
 returns-3 : tie.Need-returns-3
 returns-3 c =
     let a = c.before.before.before.before.args in
-    not_listed a.s.now (map (take a.width) a.q.now) 0 (sym c.before.before.place_of.ensures ∙ ap place_number c.enum-told2.given.1) (λ e. omega arith)
+    not_listed a.s.now a.q.now 0 (sym c.before.before.place_of.ensures ∙ ap place_number c.enum-told2.given.1) (λ e. omega arith)
 
 returns-4 : tie.Need-returns-4
 returns-4 c =
     let a = c.before.before.before.before.args in
-    not_listed a.s.now (map (take a.width) a.q.now) 1 (sym c.before.before.place_of.ensures ∙ ap place_number c.enum-told3.given.1) (λ e. omega arith)
+    not_listed a.s.now a.q.now 1 (sym c.before.before.place_of.ensures ∙ ap place_number c.enum-told3.given.1) (λ e. omega arith)
 
 returns-5 : tie.Need-returns-5
 returns-5 c =
     let a = c.before.before.before.before.args in
-    not_listed a.s.now (map (take a.width) a.q.now) 3 (sym c.before.before.place_of.ensures ∙ ap place_number c.enum-told4.given.1) (λ e. omega arith)
+    not_listed a.s.now a.q.now 3 (sym c.before.before.place_of.ensures ∙ ap place_number c.enum-told4.given.1) (λ e. omega arith)
 
 pub is-listed-spec : {M : Type 1} → statement M
 is-listed-spec =

@@ -1,11 +1,8 @@
 -- `lendings::lend` meets its contract: refused as it was decided, or the reply from the slot and the slot lent. Assumes nothing.
 use Prim.Native.Nat.{◌*◌}
 use mathlib.Core.Path.{◌≡◌, ap, ◌∙◌}
-use mathlib.Core.Bool.{Bool}
 use Rattle.profile.specs.Bytes.{Bytes, over, Bytes256}
-use Rattle.profile.specs.declared.Edition.TheVariants.{First}
 use Rattle.profile.specs.Table.{length_of, right_of}
-use Rattle.profile.specs.Slot.{Right}
 use Rattle.profile.specs.Frame.{frame}
 use Rattle.profile.specs.Agent.{given_bit, write_given}
 use Rattle.octets.proofs.ByteBounds.{below_256}
@@ -13,7 +10,6 @@ use Rattle.changes.specs.Change.{slot_at}
 use Rattle.slots.specs.declared.place.Place.TheVariants.{Enabled}
 use Rattle.decisions.proofs.Answers.{refused_serves, done_serves}
 use Rattle.decisions.proofs.Deciding.{Held, fits_lent, lent_moves}
-use Rattle.decisions.specs.Decisions.{held_by}
 use Rattle.lendings.specs.Lending.{lent_by}
 use Rattle.lendings.proofs.Outcomes.{lend_refused, to_lend, lends}
 use borrow.Author.Rules.{rules}
@@ -27,14 +23,10 @@ start d = d.before.before.before.before
 bytes : (d : tie.After-slot-to-lend) → Bytes256 (start d).args.table.now
 bytes d = below_256 (start d).args.table.now d.before.before.before.slice-known.given
 
--- which rights are held back
-abbrev held : tie.After-slot-to-lend → Right → Bool
-held d = held_by (start d).args.kind (start d).args.edition
-
 found : (at : tie.After-i) → Held (start at.before.before).args.table.now (start at.before.before).args.h at.i.given.0.0 Enabled
 found at =
     let d = at.before.before in
-    to_lend _ _ _ _ (bytes d) (start d).requires.0 (held d) _ d.slot-to-lend.ensures _ _ at.i.given.1
+    to_lend _ _ _ _ (bytes d) (start d).requires.0 _ d.slot-to-lend.ensures _ _ at.i.given.1
 
 -- the record's length
 length_is : (r : tie.After-word-at)
@@ -42,9 +34,7 @@ length_is : (r : tie.After-word-at)
 length_is r = r.word_at.ensures ∙ ap length_of (r.before.slot_at.ensures.0 ∙ (found r.before.before.before.before).lent)
 
 slot-to-lend-requires : tie.Need-slot-to-lend-requires
-slot-to-lend-requires c κs =
-    let r = c.before.before.before.requires.0 in
-    (r.whole, r.well)
+slot-to-lend-requires c κs = search rules
 
 enum-known-status : tie.Need-enum-known-status
 enum-known-status c = search rules
@@ -87,7 +77,7 @@ returns c =
     let replied = c.before.before in
     let at = replied.before.before.before in
     let d = at.before.before in
-    refused_serves (lend_refused _ _ _ _ (bytes d) (start d).requires.0 (held d) _ d.slot-to-lend.ensures (lent_by (start d).args.kind) _ at.status.given.1) replied.reply-status.ensures
+    refused_serves (lend_refused _ _ _ _ (bytes d) (start d).requires.0 _ d.slot-to-lend.ensures (lent_by (start d).args.kind) _ at.status.given.1) replied.reply-status.ensures
 
 same-length-3 : tie.Need-same-length-3
 same-length-3 c = search rules
@@ -104,8 +94,8 @@ returns-2 c =
     let at = lent.before.before.before in
     let d = at.before.before in
     let a = (start d).args in
-    let given : Bytes → Bytes = λ s. over (frame First a.kind (128 * given_bit (lent_by a.kind (right_of s))) (write_given (lent_by a.kind (right_of s)))) a.reply.now in
-    done_serves (lends _ _ _ _ (bytes d) (start d).requires.0 (held d) _ d.slot-to-lend.ensures _ _ at.i.given.1 (lent_by a.kind)) changed.relabel.ensures
+    let given : Bytes → Bytes = λ s. over (frame a.kind (128 * given_bit (lent_by a.kind (right_of s))) (write_given (lent_by a.kind (right_of s)))) a.reply.now in
+    done_serves (lends _ _ _ _ (bytes d) (start d).requires.0 _ d.slot-to-lend.ensures _ _ at.i.given.1 (lent_by a.kind)) changed.relabel.ensures
     (replied.reply-lent.ensures ∙ ap given (lent.slot_at.ensures.0 ∙ (found at).lent)) (lent_moves (found at) _ (length_is read) _)
 
 pub lend_spec : {M : Type 1} → statement M

@@ -1,12 +1,11 @@
 -- `serving::answer` meets its contract: the frame is refused, or its request is served. Assumes nothing.
 use mathlib.Core.Path.{◌≡◌}
-use native.Mathlib.Omega.{arith}
 use borrow.Author.Rules.{rules}
 use Rattle.profile.specs.Request.{read_request}
 use Rattle.request_reader.specs.declared.asked.Why.{Why}
 use Rattle.request_reader.specs.Answer.{why_means}
 use Rattle.serving.specs.Obeying.{why_of}
-use Rattle.serving.proofs.Served.{why_means_lem, refused_obeys, request_4, obeys}
+use Rattle.serving.proofs.Served.{why_means_lem, refused_obeys, obeys}
 use Rattle.serving.proofs.answer.Statement.{statement}
 use Rattle.serving.proofs.answer.Tie as tie
 
@@ -48,11 +47,6 @@ returns c =
 serve-requires : tie.Need-serve-requires
 serve-requires c κs = search rules
 
-set-edition-requires : tie.Need-set-edition-requires
-set-edition-requires c κs =
-    let told = c.before.before.before.before.before.before.before.before.before in
-    (request_4 (record { answers = told.before.before.read-request.ensures; yes = told.ask.given.1 }), omega (arith, (start told.before.before).requires.0.room))
-
 same-length-2 : tie.Need-same-length-2
 same-length-2 c = search rules
 
@@ -61,12 +55,11 @@ same-length-3 c = search rules
 
 returns-2 : tie.Need-returns-2
 returns-2 c =
-    let set = c.before.before in
-    let done = set.before.before.before.before.before.before in
+    let done = c.before.before.before.before in
     let told = done.before.before.before.before in
     let read = told.before.before in
     let s = start read in
-    obeys (record { answers = read.read-request.ensures; yes = told.ask.given.1 }) s.args.start s.pre.0.whole s.pre.0.well s.pre.1 done.serve.ensures set.set-edition.ensures
+    obeys (record { answers = read.read-request.ensures; yes = told.ask.given.1 }) s.args.start s.pre.0.whole s.pre.0.well s.pre.1 done.serve.ensures
 
 pub answer-spec : {M : Type 1} → statement M
 answer-spec =
@@ -80,7 +73,6 @@ answer-spec =
     same_length
     returns
     serve-requires
-    set-edition-requires
     same-length-2
     same-length-3
     returns-2)

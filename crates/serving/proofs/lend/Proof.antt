@@ -14,7 +14,7 @@ same-length-2 : tie.Need-same-length-2
 same-length-2 c = search rules
 
 returns : tie.Need-returns
-returns c = lent_as _ _ _ _ c.before.before.before.before.lend.ensures
+returns c = lent_as _ _ _ c.before.before.before.before.lend.ensures
 
 pub lend_spec : {M : Type 1} → statement M
 lend_spec = tie.close (tie.spec lend-requires same_length same-length-2 returns)

@@ -9,19 +9,16 @@ use Rattle.request_reader.proofs.ByCase.{install_within, list_within}
 use Rattle.octets.proofs.ByteBounds.{below_256}
 use Rattle.removals.proofs.Cleared.{removed, cancelled}
 use Rattle.queries.proofs.Untouched.{list_keeps, info_keeps, list_same, info_same}
-use Rattle.serving.proofs.Served.{request_4, served_at, served_lent, served}
+use Rattle.serving.proofs.Served.{served_at, served}
 use Rattle.serving.proofs.serve.Statement.{statement}
 use Rattle.serving.proofs.serve.Tie as tie
 
 -- from the match on the body, back to the start
-abbrev start : tie.After-edition-in → tie.Start
-start m = m.before.before.before.before
+abbrev start : tie.After-slice-known2 → tie.Start
+start m = m.before.before.before
 
-bytes : (m : tie.After-edition-in) → Bytes256 (start m).args.table.now
-bytes m = below_256 (start m).args.table.now m.before.before.before.slice-known.given
-
-edition-in-requires : tie.Need-edition-in-requires
-edition-in-requires c κs = request_4 c.before.before.before.requires.2
+bytes : (m : tie.After-slice-known2) → Bytes256 (start m).args.table.now
+bytes m = below_256 (start m).args.table.now m.before.before.slice-known.given
 
 enum-known-body : tie.Need-enum-known-body
 enum-known-body c = search rules
@@ -39,7 +36,7 @@ returns : tie.Need-returns
 returns c =
     let done = c.before.before.before.before in
     let told = done.before.before.before.before.before in
-    served_at (start told.before.before).requires.2 _ told.body.given.1 (λ q. omega (arith, q)) done.set-up.ensures
+    served_at (start told.before.before).requires.2 _ told.body.given.1 done.set-up.ensures
 
 enum-known-body-2 : tie.Need-enum-known-body-2
 enum-known-body-2 c = search rules
@@ -49,7 +46,7 @@ install-requires c κs =
     let told = c.before.before.before.before.before in
     let s = start told.before.before in
     let w = install_within s.args.frame.now s.args.asked s.pre.2.answers _ _ _ (s.pre.2.yes ∙ ap Yes told.body2.given.1) in
-    (s.pre.0, rw told.before.before.edition-in.ensures (record { some_hash = w.some_hash; few = w.few; some_payload = w.least; short = w.most; inside = omega (arith, w.ends) }))
+    (s.pre.0, record { few = w.few; some_payload = w.least; short = w.most; inside = omega (arith, w.ends) })
 
 same-length-3 : tie.Need-same-length-3
 same-length-3 c = search rules
@@ -61,7 +58,7 @@ returns-2 : tie.Need-returns-2
 returns-2 c =
     let done = c.before.before.before.before in
     let told = done.before.before.before.before.before.before in
-    served (start told.before.before).requires.2 _ told.body2.given.1 (omega arith) (λ q. omega (arith, q)) (rw told.before.before.edition-in.ensures at done.install.ensures)
+    served (start told.before.before).requires.2 _ told.body2.given.1 (omega arith) done.install.ensures
 
 enum_told : tie.Need-enum-told
 enum_told c = search rules
@@ -85,7 +82,7 @@ returns-3 : tie.Need-returns-3
 returns-3 c =
     let done = c.before.before.before.before in
     let told = done.before.before.before.before in
-    served (start told.before.before).requires.2 _ told.enum-told3.given.1 (omega arith) (λ q. omega (arith, q)) done.enable.ensures
+    served (start told.before.before).requires.2 _ told.enum-told3.given.1 (omega arith) done.enable.ensures
 
 enum-told-4 : tie.Need-enum-told-4
 enum-told-4 c = search rules
@@ -103,7 +100,7 @@ returns-4 : tie.Need-returns-4
 returns-4 c =
     let done = c.before.before.before.before in
     let told = done.before.before.before.before in
-    served (start told.before.before).requires.2 _ told.enum-told4.given.1 (omega arith) (λ q. omega (arith, q)) (removed _ done.clear.ensures)
+    served (start told.before.before).requires.2 _ told.enum-told4.given.1 (omega arith) (removed _ done.clear.ensures)
 
 enum-told-5 : tie.Need-enum-told-5
 enum-told-5 c = search rules
@@ -121,7 +118,7 @@ returns-5 : tie.Need-returns-5
 returns-5 c =
     let done = c.before.before.before.before in
     let told = done.before.before.before.before in
-    served (start told.before.before).requires.2 _ told.enum-told5.given.1 (omega arith) (λ q. omega (arith, q)) (cancelled _ done.clear2.ensures)
+    served (start told.before.before).requires.2 _ told.enum-told5.given.1 (omega arith) (cancelled _ done.clear2.ensures)
 
 enum-known-body-3 : tie.Need-enum-known-body-3
 enum-known-body-3 c = search rules
@@ -131,8 +128,7 @@ handle-list-requires c κs =
     let told = c.before.before.before in
     let s = start told.before.before in
     let w = list_within s.args.frame.now s.args.asked s.pre.2.answers _ _ _ (s.pre.2.yes ∙ ap Yes told.body3.given.1) in
-    let e = told.before.before.edition-in.ensures in
-    (record { whole = s.pre.0.whole; well = s.pre.0.well; room = s.pre.0.room }, rw e w.few, rw e (omega (arith, w.ends)))
+    (record { whole = s.pre.0.whole; well = s.pre.0.well; room = s.pre.0.room }, w.few, omega (arith, w.ends))
 
 same-length-11 : tie.Need-same-length-11
 same-length-11 c = search rules
@@ -147,8 +143,7 @@ returns-6 c =
     let m = told.before.before in
     let s = start m in
     let kept = list_keeps s.args.table.now (bytes m) s.pre.0.whole s.pre.0.well _ _ in
-    served s.pre.2 _ told.body3.given.1 (omega arith) (λ q. omega (arith, q))
-    (record { table_is = sym kept; reply_is = rw m.edition-in.ensures at done.handle-list.ensures; change_is = list_same s.args.table.now _ _ })
+    served s.pre.2 _ told.body3.given.1 (omega arith) (record { table_is = sym kept; reply_is = done.handle-list.ensures; change_is = list_same s.args.table.now _ _ })
 
 enum-told-6 : tie.Need-enum-told-6
 enum-told-6 c = search rules
@@ -169,7 +164,7 @@ returns-7 c =
     let m = told.before.before in
     let s = start m in
     let kept = info_keeps s.args.table.now (bytes m) s.pre.0.whole s.pre.0.well _ in
-    served s.pre.2 _ told.enum-told6.given.1 (omega arith) (λ q. omega (arith, q)) (record { table_is = sym kept; reply_is = done.info.ensures; change_is = info_same s.args.table.now _ })
+    served s.pre.2 _ told.enum-told6.given.1 (omega arith) (record { table_is = sym kept; reply_is = done.info.ensures; change_is = info_same s.args.table.now _ })
 
 lend-requires : tie.Need-lend-requires
 lend-requires c κs =
@@ -188,15 +183,14 @@ returns-8 c =
     let m = done.before.before.before in
     let s = start m.before in
     ⊎_elim
-    (λ w. served_lent s.pre.2 _ w.1.given.1 (omega arith) (rw (w.2, m.before.edition-in.ensures) at done.lend.ensures))
-    (λ w. served_lent s.pre.2 _ w.1.given.1 (omega arith) (rw (w.2, m.before.edition-in.ensures) at done.lend.ensures))
+    (λ w. served s.pre.2 _ w.1.given.1 (omega arith) (rw w.2 at done.lend.ensures))
+    (λ w. served s.pre.2 _ w.1.given.1 (omega arith) (rw w.2 at done.lend.ensures))
     m.match.branch
 
 pub serve-spec : {M : Type 1} → statement M
 serve-spec =
     tie.close
     (tie.spec
-    edition-in-requires
     enum-known-body
     set-up-requires
     same_length

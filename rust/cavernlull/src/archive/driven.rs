@@ -112,7 +112,7 @@ pub(crate) fn tally(table: &[u8], tally: &mut Tally) -> u16 {
 }
 
 /// `cavernlull_write_request`.
-pub(crate) fn write_request(version: u8, kind: u8, fields: &Fields<'_>, out: &mut [u8]) -> u16 {
+pub(crate) fn write_request(kind: u8, fields: &Fields<'_>, out: &mut [u8]) -> u16 {
     let fields = driver::Fields {
         handle: &fields.handle,
         new_handle: &fields.new_handle,
@@ -125,7 +125,7 @@ pub(crate) fn write_request(version: u8, kind: u8, fields: &Fields<'_>, out: &mu
         payload: fields.payload,
     };
     let given = ask(
-        |commands| commands.write_request(version, kind, &fields, out),
+        |commands| commands.write_request(kind, &fields, out),
         Answers::written,
     );
     out.copy_from_slice(&given.out);

@@ -16,7 +16,7 @@ pub(crate) use driven::{
 use crate::{HANDLE_BYTES, KEY_BYTES};
 
 /// The numbers that the reply reader writes.
-pub(crate) type Numbers = [u16; 12];
+pub(crate) type Numbers = [u16; 11];
 
 /// The three numbers that the totalling call keeps.
 #[derive(Clone, Copy, Debug, PartialEq, Eq)]

@@ -38,7 +38,6 @@ extern "C" {
     ) -> u16;
 
     fn cavernlull_write_request(
-        version: u8,
         kind: u8,
         handle: *const u8,
         new_handle: *const u8,
@@ -132,13 +131,12 @@ pub(crate) fn call_totalling(
 }
 
 /// `cavernlull_write_request`.
-pub(crate) fn write_request(version: u8, kind: u8, fields: &Fields<'_>, out: &mut [u8]) -> u16 {
+pub(crate) fn write_request(kind: u8, fields: &Fields<'_>, out: &mut [u8]) -> u16 {
     // SAFETY: handles and key are arrays of the 10 and 16 bytes that the
     // function reads; the other pointers are those of slices, with their
     // lengths; `out` is borrowed to be changed, so it overlaps none of them.
     unsafe {
         cavernlull_write_request(
-            version,
             kind,
             fields.handle.as_ptr(),
             fields.new_handle.as_ptr(),
@@ -160,7 +158,7 @@ pub(crate) fn write_request(version: u8, kind: u8, fields: &Fields<'_>, out: &mu
 /// `cavernlull_read_reply`.
 pub(crate) fn read_reply(frame: &[u8], key: &mut [u8; KEY_BYTES], numbers: &mut Numbers) -> u16 {
     // SAFETY: the frame's pointer is that of a slice, with its length; `key`
-    // and `numbers` are arrays of the 16 bytes and twelve numbers that the
+    // and `numbers` are arrays of the 16 bytes and eleven numbers that the
     // function writes, and are borrowed to be changed, so nothing overlaps.
     unsafe {
         cavernlull_read_reply(

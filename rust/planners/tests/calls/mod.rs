@@ -2,7 +2,7 @@
 
 #![allow(dead_code)] // no test file uses all of it
 
-use cavernlull::{Card, Edition, Handle, Request, Totals, SLOT_BYTES};
+use cavernlull::{Card, Handle, Request, Totals, SLOT_BYTES};
 use planners::row::{Entry, Row};
 use planners::summary::Summary;
 use planners::{recording, walk};
@@ -20,13 +20,7 @@ pub fn handle(byte: u8) -> Handle {
 
 /// A line of a recording.
 pub fn line(request: &Request) -> String {
-    line_in(request.edition(), request)
-}
-
-/// A line of a recording with the request in this edition.
-pub fn line_in(edition: Edition, request: &Request) -> String {
-    let frame = request.in_edition(edition).to_frame();
-    let frame = frame.expect("it can be written");
+    let frame = request.to_frame().expect("it can be written");
     let hex: Vec<String> = frame.iter().map(|byte| format!("{byte:02x}")).collect();
     hex.join(" ") + "\n"
 }

@@ -1,8 +1,8 @@
 //! Tables for the programs: made by calls of the agent, by hand, and at random.
 
 use random::Rng;
-use reference::{call, write_request, Count, Edition, Place, Tally, WriterFields};
-use reference::{REPLY_ROOM, SLOT_BYTES};
+use reference::{call, write_request, Count, Place, Tally, WriterFields};
+use reference::{HASH_BYTES, REPLY_ROOM, SLOT_BYTES};
 
 /// The largest table, of 64,320 bytes.
 pub const LARGEST: usize = 15 * SLOT_BYTES;
@@ -27,22 +27,9 @@ pub fn slot(handle: u8, said: Said) -> Vec<u8> {
     slot[29..31].copy_from_slice(&said.length.to_be_bytes());
     if said.place != Place::Reserved {
         slot[11..27].fill(0xC0 | handle);
-        put_hashes(&mut slot, said.hashes, Edition::First);
+        slot[31..31 + HASH_BYTES * usize::from(said.hashes)].fill(0x5A);
         slot[192..192 + usize::from(said.length)].fill(0xA7);
     }
-    slot
-}
-
-/// Fills this many hashes of an edition in a slot.
-fn put_hashes(slot: &mut [u8], hashes: u8, edition: Edition) {
-    slot[31..31 + edition.hash_bytes() * usize::from(hashes)].fill(0x5A);
-}
-
-/// The slot of a right with 1 to 5 hashes, where they have 32 bytes.
-pub fn long(mut slot: Vec<u8>) -> Vec<u8> {
-    let hashes = slot[0] >> 2 & 15;
-    slot[0] |= 1;
-    put_hashes(&mut slot, hashes, Edition::Second);
     slot
 }
 
@@ -69,17 +56,11 @@ pub fn reserved(handle: u8, length: u16) -> Vec<u8> {
     right(Place::Reserved, handle, 0, Count::NotKept, length)
 }
 
-/// The status of a request that the reference carries out on a table, in the first
-/// edition. A setup takes the lowest empty slot.
+/// The status of a request that the reference carries out on a table. A setup
+/// takes the lowest empty slot.
 pub fn ask(table: &mut [u8], kind: u8, fields: &WriterFields<'_>) -> u8 {
-    ask_in(Edition::First, table, kind, fields)
-}
-
-/// The same in any edition.
-fn ask_in(edition: Edition, table: &mut [u8], kind: u8, fields: &WriterFields<'_>) -> u8 {
     let mut frame = vec![0; 4400];
-    let number = write_request(edition.version(), kind, fields, &mut frame);
-    assert_eq!(number, 0);
+    assert_eq!(write_request(kind, fields, &mut frame), 0);
     let body = usize::from(u16::from_be_bytes([frame[2], frame[3]]));
     let mut reply = vec![0; REPLY_ROOM];
     let mut tally = Tally::of(table).expect("a table that the agent takes");
@@ -88,8 +69,8 @@ fn ask_in(edition: Edition, table: &mut [u8], kind: u8, fields: &WriterFields<'_
     reply[1] % 128
 }
 
-/// Fifteen slots, with records in every place and of both editions among them, made
-/// by requests: setups, installations, lendings, a return, and slots cleared again.
+/// Fifteen slots, with records in every place among them, made by requests:
+/// setups, installations, lendings, a return, and slots cleared again.
 pub fn by_requests() -> Vec<u8> {
     let mut table = vec![0; LARGEST];
     let lengths = [
@@ -104,9 +85,7 @@ pub fn by_requests() -> Vec<u8> {
         assert_eq!(ask(&mut table, 1, &setup), 0);
     }
     for (i, &length) in (0..).zip(&lengths).filter(|(i, _)| i % 5 != 1) {
-        let edition = Edition::ALL[usize::from(i == 3 || i > 12)];
-        let most = edition.most_hashes();
-        let hashes = vec![i; edition.hash_bytes() * (1 + usize::from(i) % most)];
+        let hashes = vec![i; HASH_BYTES * usize::from(1 + i % 8)];
         let installation = WriterFields {
             handle: [i; 10],
             key: [i; 16],
@@ -116,9 +95,9 @@ pub fn by_requests() -> Vec<u8> {
             payload: &vec![0xEE; usize::from(length)],
             ..WriterFields::default()
         };
-        assert_eq!(ask_in(edition, &mut table, 2, &installation), 0);
+        assert_eq!(ask(&mut table, 2, &installation), 0);
     }
-    for (kind, handle) in [(4, 0), (4, 3), (4, 8), (3, 12), (6, 5), (7, 11)] {
+    for (kind, handle) in [(4, 0), (3, 3), (4, 8), (3, 12), (6, 5), (7, 11)] {
         let request = WriterFields {
             handle: [handle; 10],
             new_handle: [if kind < 5 { 100 + handle } else { 0 }; 10],
@@ -158,10 +137,7 @@ fn any_slot(rng: &mut Rng, handle: u8) -> Vec<u8> {
     match rng.below(4) {
         3 => empty(),
         0 => reserved(handle, length),
-        i => match rng.below(14) {
-            n @ 0..=8 => right(place[i], handle, n as u8, any_count(rng), length),
-            n => long(right(place[i], handle, n as u8 - 8, any_count(rng), length)),
-        },
+        i => right(place[i], handle, rng.below(9) as u8, any_count(rng), length),
     }
 }
 

@@ -3,21 +3,15 @@
 #![allow(dead_code)] // no test file uses all of it
 
 use random::Rng;
-use reference::Count::{self, Kept, NotKept};
-use reference::{Edition, Fields, Handle, Key, Tally, WriterFields, REPLY_ROOM, SLOT_BYTES};
-
-pub mod cases;
-
-/// The bytes of a hash of the first edition.
-pub const HASH_BYTES: usize = Edition::First.hash_bytes();
+use reference::{Count, Fields, Handle, Key, Tally, WriterFields};
+use reference::{HASH_BYTES, REPLY_ROOM, SLOT_BYTES};
 
 /// What reply buffers hold before a call.
 pub const FILLER: u8 = 0xA5;
 
-/// The edition and the fields of a request, with hashes and payload of its own.
+/// The fields of a request, with hashes and payload of its own.
 #[derive(Clone, Debug, Default)]
 pub struct OwnFields {
-    pub edition: Edition,
     pub handle: Handle,
     pub new_handle: Handle,
     pub key: Key,
@@ -65,19 +59,20 @@ impl Asker {
     }
 
     /// The hashes of a query, of which there may be none.
-    fn asked_hashes(&self, rng: &mut Rng, edition: Edition) -> Vec<u8> {
-        match rng.below(4) {
-            0 => Vec::new(),
-            _ => self.own_hashes(rng, edition),
-        }
+    fn asked_hashes(&self, rng: &mut Rng) -> Vec<u8> {
+        let count = rng.pick(&[0, 0, 1, 1, 2, 3, 7, 8]);
+        self.hashes(rng, count)
     }
 
     /// The hashes of a right that may be installed.
-    fn own_hashes(&self, rng: &mut Rng, edition: Edition) -> Vec<u8> {
-        let most = edition.most_hashes();
-        let count = rng.pick(&[1, 1, 1, 2, 3, most - 1, most]);
+    fn own_hashes(&self, rng: &mut Rng) -> Vec<u8> {
+        let count = rng.pick(&[1, 1, 1, 2, 3, 7, 8]);
+        self.hashes(rng, count)
+    }
+
+    fn hashes(&self, rng: &mut Rng, count: usize) -> Vec<u8> {
         (0..count)
-            .flat_map(|_| hash(edition, rng.below(6) as u8))
+            .flat_map(|_| [rng.below(6) as u8; HASH_BYTES])
             .collect()
     }
 
@@ -105,13 +100,9 @@ impl Asker {
         }
     }
 
-    /// Fields that the writer takes for this kind, in either edition.
+    /// Fields that the writer takes for this kind.
     pub fn fields(&self, rng: &mut Rng, kind: u8) -> OwnFields {
-        let edition = rng.pick(&Edition::ALL);
-        let mut fields = OwnFields {
-            edition,
-            ..OwnFields::default()
-        };
+        let mut fields = OwnFields::default();
         if kind != 8 {
             fields.handle = self.handle(rng);
         }
@@ -120,7 +111,7 @@ impl Asker {
             2 => {
                 fields.key = [rng.byte(); 16];
                 fields.count = self.count(rng);
-                fields.hashes = self.own_hashes(rng, edition);
+                fields.hashes = self.own_hashes(rng);
                 let length = self.payload_length(rng);
                 fields.payload = rng.bytes(length);
             }
@@ -128,7 +119,7 @@ impl Asker {
             5 => fields.count = self.count(rng),
             8 => {
                 fields.limit = rng.pick(&[0, 0, 1, 9, 10, 19, 20, 55, 149, 150, 0xFFFF]);
-                fields.hashes = self.asked_hashes(rng, edition);
+                fields.hashes = self.asked_hashes(rng);
             }
             _ => {}
         }
@@ -165,29 +156,19 @@ fn spoil(rng: &mut Rng, frame: &mut Vec<u8>) {
         }
         6 => {
             let body = rng.bytes(frame.len() % 64);
-            *frame = request_bytes_in(frame[0] >> 5, frame[0] & 31, 0x80, &body);
+            *frame = request_bytes(frame[0] & 31, 0x80, &body);
         }
         7 => frame[1] ^= 0x40,
         _ => {
             let kind = rng.pick(&[0, 10, 16, 31]);
-            *frame = request_bytes_in(frame[0] >> 5, kind, 0x80, &frame[4..]);
+            *frame = request_bytes(kind, 0x80, &frame[4..]);
         }
     }
 }
 
-/// A hash of equal bytes, of the length of an edition.
-pub fn hash(edition: Edition, byte: u8) -> Vec<u8> {
-    vec![byte; edition.hash_bytes()]
-}
-
 /// A frame of version 1, put together without the library.
 pub fn request_bytes(kind: u8, second: u8, body: &[u8]) -> Vec<u8> {
-    request_bytes_in(1, kind, second, body)
-}
-
-/// A frame of this version, put together without the library.
-pub fn request_bytes_in(version: u8, kind: u8, second: u8, body: &[u8]) -> Vec<u8> {
-    let mut frame = vec![version * 0x20 + kind, second];
+    let mut frame = vec![0x20 + kind, second];
     frame.extend((body.len() as u16).to_be_bytes());
     frame.extend(body);
     frame
@@ -200,13 +181,12 @@ pub fn frame_bytes(kind: u8, fields: &OwnFields) -> Vec<u8> {
         Count::NotKept => 0x80,
         Count::Kept(_) => 0xC0,
     };
-    let body = body_bytes(kind, fields);
-    request_bytes_in(fields.edition.version(), kind, second, &body)
+    request_bytes(kind, second, &body_bytes(kind, fields))
 }
 
 /// The body of a request, put together without the library.
 pub fn body_bytes(kind: u8, fields: &OwnFields) -> Vec<u8> {
-    let hash_count = (fields.hashes.len() / fields.edition.hash_bytes()) as u8;
+    let hash_count = (fields.hashes.len() / HASH_BYTES) as u8;
     let handle = fields.handle.as_slice();
     match kind {
         1 => [handle, &fields.length.to_be_bytes()].concat(),
@@ -328,7 +308,7 @@ pub fn fourth() -> OwnFields {
 pub fn take_hashes(table: &mut [u8], slot: usize) {
     let slot = &mut table[slot * SLOT_BYTES..][..SLOT_BYTES];
     assert!(slot[0] >= 0x80, "the slot holds a right");
-    slot[0] &= !0b0011_1101;
+    slot[0] &= !0b0011_1100;
     slot[31..191].fill(0);
 }
 
@@ -414,40 +394,6 @@ pub fn returning(handle: u8, count: Count) -> OwnFields {
 /// (PROFILE 5.5), worked out without the library.
 pub fn is_raised(lent: Count, sent: Count) -> bool {
     lent.is_kept() != sent.is_kept() || sent.number() > lent.number()
-}
-
-/// The same fields, sent in the other edition, with hashes of its length if they have
-/// any.
-pub fn long(fields: OwnFields) -> OwnFields {
-    let edition = Edition::Second;
-    let hashes = fields.hashes.chunks(HASH_BYTES);
-    OwnFields {
-        edition,
-        hashes: hashes.flat_map(|bytes| hash(edition, bytes[0])).collect(),
-        ..fields
-    }
-}
-
-/// None, both ends of what a count can be, and numbers of one byte and of two, which
-/// differ in each byte.
-pub const COUNTS: [Count; 8] = [
-    NotKept,
-    Kept(0),
-    Kept(1),
-    Kept(0xFF),
-    Kept(0x100),
-    Kept(0x8000),
-    Kept(0xFFFE),
-    Kept(0xFFFF),
-];
-
-/// A card of one slot: a right with this count, for use under ten bytes 1.
-pub fn for_use(count: Count) -> Vec<u8> {
-    let mut table = blank(1);
-    call_for(0, &mut table, 1, &setup(1, 5));
-    let fields = right(1, 2, 5);
-    call_for(0, &mut table, 2, &OwnFields { count, ..fields });
-    table
 }
 
 /// The fields of an installation, or of a return, that keeps no count.

@@ -7,9 +7,8 @@ use Rattle.bits.proofs.fields.slot_head.Tie as tie
 
 returns : tie.Need-returns
 returns c =
-    let low = join 1 8 c.args.kept c.args.long (omega arith) (omega arith) in
-    let mid = join 2 8 c.args.hashes (c.args.kept * 2 + c.args.long) (omega arith) (omega arith) in
-    rw (low, mid) (omega (arith, join 6 8 c.args.place (c.args.hashes * 4 + (c.args.kept * 2 + c.args.long)) (omega arith) (omega arith)))
+    let low = join 2 8 c.args.hashes (c.args.kept * 2 % 256) (omega arith) (omega arith) in
+    rw low (omega (arith, join 6 8 c.args.place (c.args.hashes * 4 + c.args.kept * 2 % 256) (omega arith) (omega arith)))
 
 pub slot-head-spec : {M : Type 1} → statement M
 slot-head-spec = tie.close (tie.spec returns)

@@ -1,7 +1,6 @@
 -- `cavernlull::numbers::numbers_of` meets its contract, case by case of the answer. Assumes nothing.
 use mathlib.Core.Path.{sym, ap, ◌∙◌}
 use borrow.Author.Rules.{rules}
-use Rattle.reply_reader.specs.declared.answer.Answer.{Answer}
 use Rattle.cavernlull.specs.Numbers.{numbers}
 use Rattle.cavernlull.proofs.numbers.numbers_of.Statement.{statement}
 use Rattle.cavernlull.proofs.numbers.numbers_of.Tie as tie
@@ -49,25 +48,25 @@ of-counted-requires : tie.Need-of-counted-requires
 of-counted-requires c κs = rw c.before.answer5.given.1 at c.before.before.before.requires
 
 returns : tie.Need-returns
-returns c = c.of-status.ensures ∙ sym (ap (λ (a : Answer). numbers a c.before.before.before.args.version) c.before.enum_told.given.1)
+returns c = c.of-status.ensures ∙ sym (ap numbers c.before.enum_told.given.1)
 
 returns-2 : tie.Need-returns-2
-returns-2 c = c.of-status2.ensures ∙ sym (ap (λ (a : Answer). numbers a c.before.before.before.before.args.version) c.before.before.answer.given.1)
+returns-2 c = c.of-status2.ensures ∙ sym (ap numbers c.before.before.answer.given.1)
 
 returns-3 : tie.Need-returns-3
-returns-3 c = c.of-status3.ensures ∙ sym (ap (λ (a : Answer). numbers a c.before.before.before.before.args.version) c.before.before.answer2.given.1)
+returns-3 c = c.of-status3.ensures ∙ sym (ap numbers c.before.before.answer2.given.1)
 
 returns-4 : tie.Need-returns-4
-returns-4 c = c.of_right.ensures ∙ sym (ap (λ (a : Answer). numbers a c.before.before.before.before.args.version) c.before.before.answer3.given.1)
+returns-4 c = c.of_right.ensures ∙ sym (ap numbers c.before.before.answer3.given.1)
 
 returns-5 : tie.Need-returns-5
-returns-5 c = c.of-status4.ensures ∙ sym (ap (λ (a : Answer). numbers a c.before.before.before.args.version) c.before.enum-told2.given.1)
+returns-5 c = c.of-status4.ensures ∙ sym (ap numbers c.before.enum-told2.given.1)
 
 returns-6 : tie.Need-returns-6
-returns-6 c = c.of-handles.ensures ∙ sym (ap (λ (a : Answer). numbers a c.before.before.before.before.args.version) c.before.before.answer4.given.1)
+returns-6 c = c.of-handles.ensures ∙ sym (ap numbers c.before.before.answer4.given.1)
 
 returns-7 : tie.Need-returns-7
-returns-7 c = c.of-counted.ensures ∙ sym (ap (λ (a : Answer). numbers a c.before.before.before.before.args.version) c.before.before.answer5.given.1)
+returns-7 c = c.of-counted.ensures ∙ sym (ap numbers c.before.before.answer5.given.1)
 
 pub numbers-of-spec : {M : Type 1} → statement M
 numbers-of-spec =

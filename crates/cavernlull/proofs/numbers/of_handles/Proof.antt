@@ -12,17 +12,17 @@ as_number : (t : Bool) → bool_byte t ≡ cond t 1 0
 as_number true = refl
 as_number false = refl
 
+cast-t4 : tie.Need-overflow-cast-t4
+cast-t4 c = search rules
+
 cast-t5 : tie.Need-overflow-cast-t5
 cast-t5 c = search rules
 
 cast-t6 : tie.Need-overflow-cast-t6
 cast-t6 c = search rules
 
-cast-t7 : tie.Need-overflow-cast-t7
-cast-t7 c = search rules
-
 returns : tie.Need-returns
-returns c = ap (λ (x : ℕ). 8 ∷ 0 ∷ 0 ∷ 0 ∷ 0 ∷ 0 ∷ 0 ∷ x ∷ c.args.handles ∷ c.args.at ∷ 0 ∷ c.args.version ∷ []) (as_number c.args.more)
+returns c = ap (λ (x : ℕ). 8 ∷ 0 ∷ 0 ∷ 0 ∷ 0 ∷ 0 ∷ 0 ∷ x ∷ c.args.handles ∷ c.args.at ∷ 0 ∷ []) (as_number c.args.more)
 
 pub of-handles-spec : {M : Type 1} → statement M
-of-handles-spec = tie.close (tie.spec cast-t5 cast-t6 cast-t7 returns)
+of-handles-spec = tie.close (tie.spec cast-t4 cast-t5 cast-t6 returns)

@@ -9,6 +9,9 @@ number-of-requires c κs = search rules
 kept-bit-requires : tie.Need-kept-bit-requires
 kept-bit-requires c κs = search rules
 
+cast-t8 : tie.Need-overflow-cast-t8
+cast-t8 c = search rules
+
 cast-t9 : tie.Need-overflow-cast-t9
 cast-t9 c = search rules
 
@@ -21,9 +24,6 @@ cast-t11 c = search rules
 cast-t12 : tie.Need-overflow-cast-t12
 cast-t12 c = search rules
 
-cast-t13 : tie.Need-overflow-cast-t13
-cast-t13 c = search rules
-
 returns : tie.Need-returns
 returns c = rw (c.before.number_of_lem.ensures, c.kept_bit_lem.ensures.0)
 
@@ -33,9 +33,9 @@ of-right-spec =
     (tie.spec
     number-of-requires
     kept-bit-requires
+    cast-t8
     cast-t9
     cast-t10
     cast-t11
     cast-t12
-    cast-t13
     returns)

@@ -4,7 +4,7 @@ use mathlib.Core.List.{[], ◌∷◌}
 use Prim.Native.Nat.{ℕ}
 use native.Mathlib.Omega.{arith}
 use Rattle.buffers.specs.Over.{over_at}
-use Rattle.buffers.proofs.Overlays.{over_byte}
+use Rattle.changes.proofs.OverFields.{over_byte}
 use borrow.Author.Rules.{rules}
 use Rattle.changes.proofs.fields.put_head.Statement.{statement}
 use Rattle.changes.proofs.fields.put_head.Tie as tie

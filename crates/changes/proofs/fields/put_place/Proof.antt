@@ -3,7 +3,7 @@ use mathlib.Core.Path.{ap, ◌∙◌}
 use mathlib.Core.List.{[], ◌∷◌}
 use Prim.Native.Nat.{ℕ}
 use Rattle.buffers.specs.Over.{over_at}
-use Rattle.buffers.proofs.Overlays.{over_byte}
+use Rattle.changes.proofs.OverFields.{over_byte}
 use borrow.Author.Rules.{rules}
 use Rattle.changes.proofs.fields.put_place.Statement.{statement}
 use Rattle.changes.proofs.fields.put_place.Tie as tie

@@ -14,12 +14,6 @@ slot-hashes-requires c κs = search rules
 kept-bit-requires : tie.Need-kept-bit-requires
 kept-bit-requires c κs = search rules
 
-slice-read-slot-long : tie.Need-slice-read-slot-long
-slice-read-slot-long c = search rules
-
-slot-long-requires : tie.Need-slot-long-requires
-slot-long-requires c κs = search rules
-
 put-head-requires : tie.Need-put-head-requires
 put-head-requires c κs = search rules
 
@@ -32,15 +26,13 @@ same_length c = search rules
 returns : tie.Need-returns
 returns c =
     let head = c.before.before.before.before.before.before in
-    let marked = head.before.before in
-    let kept = marked.before.before in
-    let hashes = kept.before in
+    let hashes = head.before.before.before in
     let known = hashes.before.before in
     let start = known.before in
     let s = start.args.s.now in
     let count = c.before.before.put_count in
-    enables s (below_256 s known.slice-known.given) head.put-head.new.0 count.new.0 start.args.count _ _ _ start.requires
-    hashes.slot-hashes.ensures kept.kept_bit_lem.ensures.0 marked.slot_long.ensures head.put-head.ensures count.ensures
+    enables s (below_256 s known.slice-known.given) head.put-head.new.0 count.new.0 start.args.count _ _ start.requires
+    hashes.slot-hashes.ensures head.before.before.kept_bit_lem.ensures.0 head.put-head.ensures count.ensures
 
 pub enable-spec : {M : Type 1} → statement M
 enable-spec =
@@ -49,8 +41,6 @@ enable-spec =
     slice-read-slot-hashes
     slot-hashes-requires
     kept-bit-requires
-    slice-read-slot-long
-    slot-long-requires
     put-head-requires
     put-count-requires
     same_length

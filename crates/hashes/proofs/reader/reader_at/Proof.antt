@@ -1,5 +1,5 @@
--- `hashes::reader::reader_at` meets its contract: a walk of its MIR by hand. A reader is made of the slice and the two numbers passed, in
--- the result's local. A `&[u8]` is Copy, so what it owns is had twice: once for `bytes` at exit, and once inside the result. Assumes nothing.
+-- `hashes::reader::reader_at` meets its contract: a walk of its MIR by hand. A reader is made of the slice and the number passed, in the
+-- result's local. A `&[u8]` is Copy, so what it owns is had twice: once for `bytes` at exit, and once inside the result. Assumes nothing.
 use mathlib.Core.Path.{refl}
 use Prim.Native.Nat.{ℕ, ◌<◌, ◌^◌}
 use mathlib.Core.List.{List, [], ◌∷◌}
@@ -42,10 +42,10 @@ use Rattle.hashes.proofs.reader.reader_at.Statement as stated
 use Rattle.hashes.proofs.reader.reader_at.Code as code
 
 abbrev stayed : Stays (f.ended).signature.params (f.ended).kept
-stayed = (stay_none_slice (0 ∷ []) tt (plain (λ _. u8)) yes, (stay_none (λ _. usize) yes, (stay_none (λ _. usize) yes, tt)))
+stayed = (stay_none_slice (0 ∷ []) tt (plain (λ _. u8)) yes, (stay_none (λ _. usize) yes, tt))
 
 module _ {M : Type 1} {𝓤 : Ura M} (𝓛 : Logic 𝓤) (mem : Memory → SProp 𝓤) (run : Routine → Fun 𝓤) (κ : Lft) (q : Share) (s : Bor (List ℕ))
-    (w n : ℕ) (w_Fits : w < 2 ^ 64) (n-fits : n < 2 ^ 64) where
+    (n : ℕ) (n-fits : n < 2 ^ 64) where
   open 𝓛 use {H}
 
   abbrev α : NamedLft
@@ -57,49 +57,46 @@ module _ {M : Type 1} {𝓤 : Ura M} (𝓛 : Logic 𝓤) (mem : Memory → SProp
 
   -- the reader that is made
   abbrev made : HashReader
-  made = record { bytes = s; width = w; at = n }
+  made = record { bytes = s; at = n }
 
-  abbrev vals : List Val × (List Val × (List Val × Unit {0}))
-  vals = (v ∷ [], (vint w64 w ∷ [], (vint w64 n ∷ [], tt)))
+  abbrev vals : List Val × (List Val × Unit {0})
+  vals = (v ∷ [], (vint w64 n ∷ [], tt))
 
   abbrev Post : Val → SProp 𝓤
-  Post = (walk_of 𝓛 f.ended stayed (f.clauses 𝓛 mem run)).post (((κ, tt), (q, tt), tt, (s, (w, (n, tt))), vals), tt)
+  Post = (walk_of 𝓛 f.ended stayed (f.clauses 𝓛 mem run)).post (((κ, tt), (q, tt), tt, (s, (n, tt)), vals), tt)
 
   abbrev Own : Fml
   Own = (ShrSlice (named 0) κ u8).own_val s (v ∷ [])
 
-  exits : ent 𝓤 (on_entry 𝓛 f.signature (κ, tt) (q, tt) (s, (w, (n, tt))) vals) (Post (T'.lowered made))
+  exits : ent 𝓤 (on_entry 𝓛 f.signature (κ, tt) (q, tt) (s, (n, tt)) vals) (Post (T'.lowered made))
   exits =
-      qed 𝓛 ((‵ (flft κ q) ⊛ ‵ ftrue) ∷ ‵ (owns (ShrSlice (named 0) κ u8 ∷ usize ∷ usize ∷ []) (s, (w, (n, tt))) vals) ∷ []) ∵
-      suffices ! _ (ends_at 𝓛 f.ended stayed (f.clauses 𝓛 mem run) (((κ, tt), (q, tt), tt, (s, (w, (n, tt))), vals), tt) (T'.lowered made) made (tt, (tt, (tt, tt))) (tt, (tt, (tt, tt)))) $ says ! refl $
+      qed 𝓛 ((‵ (flft κ q) ⊛ ‵ ftrue) ∷ ‵ (owns (ShrSlice (named 0) κ u8 ∷ usize ∷ []) (s, (n, tt)) vals) ∷ []) ∵
+      suffices ! _ (ends_at 𝓛 f.ended stayed (f.clauses 𝓛 mem run) (((κ, tt), (q, tt), tt, (s, (n, tt)), vals), tt) (T'.lowered made) made (tt, (tt, tt)) (tt, (tt, tt))) $ says ! refl $
       frame ! $ fsplit ! $ use1 𝓛 (‵ Own ⊛ ‵ Own) ((shr_slice_copy 𝓛 (named 0) κ u8).twice s (v ∷ [])) $ split ! $ move ! (0 ∷ 2 ∷ []) $ fjoin ! $ frame ! $
-      -- [what bytes owns]: what the fields own together, of it and of the numbers' facts, is what the struct owns
-      nothing ! $ owned ! usize (Is usize) (uint_Makes 𝓛 w64) n _ (refl, n-fits) $ fjoin ! $ owned ! usize (Is usize) (uint_Makes 𝓛 w64) w _ (refl, w_Fits) $ fjoin ! $
-      move ! (1 ∷ 0 ∷ []) $ fjoin ! $ by ! (own_shut 𝓛 (T.the_type α) (T'.the_laws α) (s, (w, (n, tt))))
+      -- [what bytes owns]: what the fields own together, of it and of at's facts, is what the struct owns
+      nothing ! $ owned ! usize (Is usize) (uint_Makes 𝓛 w64) n _ (refl, n-fits) $ fjoin ! $ move ! (1 ∷ 0 ∷ []) $ fjoin ! $ by ! (own_shut 𝓛 (T.the_type α) (T'.the_laws α) (s, (n, tt)))
 
   module _ (C : Calls 𝓤 H) (Λ : Loops 𝓤 H) where
-    walk : Is (ShrSlice (named 0) κ u8) s (v ∷ []) → ent 𝓤 (on_entry 𝓛 f.signature (κ, tt) (q, tt) (s, (w, (n, tt))) vals) (WpFn 𝓤 H C Λ code.function (v ∷ vint w64 w ∷ vint w64 n ∷ []) Post)
+    walk : Is (ShrSlice (named 0) κ u8) s (v ∷ []) → ent 𝓤 (on_entry 𝓛 f.signature (κ, tt) (q, tt) (s, (n, tt)) vals) (WpFn 𝓤 H C Λ code.function (v ∷ vint w64 n ∷ []) Post)
     walk p =
-        qed 𝓛 (raw (on_entry 𝓛 f.signature (κ, tt) (q, tt) (s, (w, (n, tt))) vals) ∷ []) ∵ enter ! C Λ code.function (v ∷ vint w64 w ∷ vint w64 n ∷ []) _ $
-        alloc1 ! (λ l₀. alloc1 ! (λ l₁. alloc1 ! (λ l₂. alloc1 ! (λ l₃. alloc0 ! $ params1 ! $ pass1 ! (init ! 4 refl ((shr_slice_Lawful 𝓛 (named 0) κ u8).typed s (v ∷ []) p).0) $
-        pass1 ! (init ! 2 refl (tt, record { fits = w_Fits })) $ pass1 ! (init ! 0 refl (tt, record { fits = n-fits })) $ pass0 ! $
-        assigns ! (agg ! (and_then ! (load ! (from ! (stop !)) (look ! 4 refl)) (and_then ! (load ! (from ! (stop !)) (look ! 2 refl)) (and_then ! (load ! (from ! (stop !)) (look ! 0 refl)) (no_more !))))) (from ! (stop !))
-        (init ! 6 refl (tt, (((shr_slice_Lawful 𝓛 (named 0) κ u8).typed s (v ∷ []) p).0.1, (record { fits = w_Fits }, (record { fits = n-fits }, tt))))) $
-        returns ! (look ! 6 refl) $ forget ! 0 refl $ forget ! 2 refl $ forget ! 4 refl $ forget ! 6 refl $
-        move ! (6 ∷ 7 ∷ []) $ free1 ! $ move ! (4 ∷ 5 ∷ []) $ free1 ! $ move ! (2 ∷ 3 ∷ []) $ free1 ! $ free1 ! $ free0 ! $ by ! exits))))
+        qed 𝓛 (raw (on_entry 𝓛 f.signature (κ, tt) (q, tt) (s, (n, tt)) vals) ∷ []) ∵ enter ! C Λ code.function (v ∷ vint w64 n ∷ []) _ $
+        alloc1 ! (λ l₀. alloc1 ! (λ l₁. alloc1 ! (λ l₂. alloc0 ! $ params1 ! $ pass1 ! (init ! 2 refl ((shr_slice_Lawful 𝓛 (named 0) κ u8).typed s (v ∷ []) p).0) $ pass1 ! (init ! 0 refl (tt, record { fits = n-fits })) $ pass0 ! $
+        assigns ! (agg ! (and_then ! (load ! (from ! (stop !)) (look ! 2 refl)) (and_then ! (load ! (from ! (stop !)) (look ! 0 refl)) (no_more !)))) (from ! (stop !))
+        (init ! 4 refl (tt, (((shr_slice_Lawful 𝓛 (named 0) κ u8).typed s (v ∷ []) p).0.1, (record { fits = n-fits }, tt)))) $
+        returns ! (look ! 4 refl) $ forget ! 0 refl $ forget ! 2 refl $ forget ! 4 refl $ move ! (4 ∷ 5 ∷ []) $ free1 ! $ move ! (2 ∷ 3 ∷ []) $ free1 ! $ free1 ! $ free0 ! $ by ! exits)))
 
 module _ {M : Type 1} {𝓤 : Ura M} (𝓛 : Logic 𝓤) (mem : Memory → SProp 𝓤) (run : Routine → Fun 𝓤) where
   open 𝓛 use {H}
 
   reader-at-walks : (C : Calls 𝓤 H) (Λ : Loops 𝓤 H) → Walks 𝓛 f.ended stayed (WpFn 𝓤 H C Λ code.function) (f.clauses 𝓛 mem run)
-  reader-at-walks C Λ = walked 𝓛 f.ended stayed (f.clauses 𝓛 mem run) (WpFn 𝓤 H C Λ code.function) (λ κs. (shr_slice_vals, (uint_vals w64, (uint_vals w64, tt))))
-      (λ κs. (shr_slice_Tells (named 0) κs.0 u8, (uint_Tells w64, (uint_Tells w64, tt))))
-      (λ κs qs bounds a g are. via 𝓤 _ (fst∗ 𝓤 _ (emp 𝓤)) (walk 𝓛 mem run κs.0 qs.0 a.0 a.1.0 a.1.1.0 are.1.0.1 are.1.1.0.1 C Λ are.0))
+  reader-at-walks C Λ = walked 𝓛 f.ended stayed (f.clauses 𝓛 mem run) (WpFn 𝓤 H C Λ code.function) (λ κs. (shr_slice_vals, (uint_vals w64, tt)))
+      (λ κs. (shr_slice_Tells (named 0) κs.0 u8, (uint_Tells w64, tt)))
+      (λ κs qs bounds a g are. via 𝓤 _ (fst∗ 𝓤 _ (emp 𝓤)) (walk 𝓛 mem run κs.0 qs.0 a.0 a.1.0 are.1.0.1 C Λ are.0))
 
 reader-at-meets : {M : Type 1} {𝓤 : Ura M} (𝓛 : Logic 𝓤) → (mem : Memory → SProp 𝓤) (run : Routine → Fun 𝓤) (𝓣 : Tables 𝓤 𝓛.H)
     → Meets 𝓛 f.signature (WpFn 𝓤 𝓛.H 𝓣.C 𝓣.Λ code.function) (f.spec 𝓛 mem run)
 reader-at-meets {𝓤 = 𝓤} 𝓛 mem run 𝓣 = walk_Meets 𝓛 f.ended stayed
-    (Goes-none_slice 𝓛 1 (0 ∷ []) tt (plain (λ _. u8)) yes, (Goes-none 𝓛 1 (λ _. usize) yes (λ κs x f. refl), (Goes-none 𝓛 1 (λ _. usize) yes (λ κs x f. refl), tt))) (f.clauses 𝓛 mem run)
+    (Goes-none_slice 𝓛 1 (0 ∷ []) tt (plain (λ _. u8)) yes, (Goes-none 𝓛 1 (λ _. usize) yes (λ κs x f. refl), tt)) (f.clauses 𝓛 mem run)
     (WpFn 𝓤 𝓛.H 𝓣.C 𝓣.Λ code.function) (WpFn-mono 𝓤 𝓛.H 𝓛.laws 𝓣 code.function) (reader-at-walks 𝓛 mem run 𝓣.C 𝓣.Λ)
 
 pub reader-at-spec : {M : Type 1} → stated.statement M

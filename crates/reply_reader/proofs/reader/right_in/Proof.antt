@@ -1,11 +1,5 @@
 -- `reply_reader::reader::right_in` meets its contract. Assumes nothing.
-use mathlib.Core.Path.{◌≡◌, ap, ◌∙◌}
-use native.Mathlib.Omega.{arith}
-use Prim.Native.Nat.{ℕ, ◌+◌, ◌*◌}
-use Rattle.profile.specs.Edition.{hash_size}
-use Rattle.profile.specs.Frame.{edition_in}
-use Rattle.reply_reader.specs.Told.{payload_from}
-use Rattle.reply_reader.proofs.Tellings.{right_told}
+use Rattle.reply_reader.specs.Told.{right_in}
 use borrow.Author.Rules.{rules}
 use Rattle.reply_reader.proofs.reader.right_in.Statement.{statement}
 use Rattle.reply_reader.proofs.reader.right_in.Tie as tie
@@ -22,27 +16,21 @@ hash-count-of-requires c κs = search rules
 wide8-requires : tie.Need-wide8-requires
 wide8-requires c κs = search rules
 
-after-hashes-requires : tie.Need-after-hashes-requires
-after-hashes-requires c κs = search rules
+mul_at : tie.Need-overflow-mul-at
+mul_at c = search rules
+
+add_at : tie.Need-overflow-add-at
+add_at c = search rules
 
 count-at-requires : tie.Need-count-at-requires
 count-at-requires c κs = search rules
 
-abbrev start : tie.After-after-hashes → tie.Start
-start d = d.before.before.before.before.before.before
-
--- the payload stands where it is to stand
-at : (d : tie.After-after-hashes) → d.after_hashes.result ≡ payload_from (start d).args.f.now
-at d = d.after_hashes.ensures.0 ∙ ap (λ (n : ℕ). 23 + hash_size (edition_in (start d).args.f.now) * n) (d.before.wide8.ensures ∙ d.before.before.hash-count-of.ensures)
-
 sub-t10 : tie.Need-overflow-sub-t10
-sub-t10 c = omega (arith, at c.before, (start c.before).requires.1)
+sub-t10 c = search rules
 
 returns : tie.Need-returns
-returns c =
-    let after = c.before in
-    let many = after.before in
-    right_told (start after).args.f.now many.before.before.before.key_at.ensures c.count_at.ensures (many.wide8.ensures ∙ many.before.hash-count-of.ensures) (at after)
+unfolding right_in
+returns c = rw (c.count_at.ensures, c.before.wide8.ensures, c.before.before.hash-count-of.ensures, c.before.before.before.before.key_at.ensures)
 
 pub right-in-spec : {M : Type 1} → statement M
 right-in-spec =
@@ -52,7 +40,8 @@ right-in-spec =
     shared-slice-read-hash-count-of
     hash-count-of-requires
     wide8-requires
-    after-hashes-requires
+    mul_at
+    add_at
     count-at-requires
     sub-t10
     returns)

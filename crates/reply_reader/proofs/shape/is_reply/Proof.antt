@@ -14,24 +14,20 @@ word-at-requires c κs = search rules
 wide16-requires : tie.Need-wide16-requires
 wide16-requires c κs = search rules
 
+add-result : tie.Need-overflow-add-result
+add-result c = search rules
+
 shared-slice-read-frame-version : tie.Need-shared-slice-read-frame-version
 shared-slice-read-frame-version c = search rules
 
 frame-version-requires : tie.Need-frame-version-requires
 frame-version-requires c κs = search rules
 
-add-result : tie.Need-overflow-add-result
-add-result c = search rules
-
-is-version-requires : tie.Need-is-version-requires
-is-version-requires c κs = search rules
-
 returns-2 : tie.Need-returns-2
 returns-2 c =
-    let version = c.before in
-    let said = version.before.before in
+    let said = c.before.before in
     let long = said.before.before in
-    frame_tests long.before.before.args.f.now long.if1.false (said.wide16.ensures ∙ said.before.word_at.ensures) version.frame_version.ensures c.is-version.ensures
+    frame_tests long.before.before.args.f.now long.if1.false (said.wide16.ensures ∙ said.before.word_at.ensures) c.frame_version.ensures
 
 pub is-reply-spec : {M : Type 1} → statement M
 is-reply-spec =
@@ -40,8 +36,7 @@ is-reply-spec =
     returns
     word-at-requires
     wide16-requires
+    add-result
     shared-slice-read-frame-version
     frame-version-requires
-    add-result
-    is-version-requires
     returns-2)

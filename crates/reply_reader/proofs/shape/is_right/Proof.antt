@@ -1,6 +1,5 @@
 -- `reply_reader::shape::is_right` meets its contract. Assumes nothing.
-use mathlib.Core.Path.{ap, ◌∙◌}
-use Rattle.profile.specs.Edition.{most_hashes}
+use mathlib.Core.Path.{◌∙◌}
 use Rattle.reply_reader.proofs.Shapes.{right_short, right_tests}
 use borrow.Author.Rules.{rules}
 use Rattle.reply_reader.proofs.shape.is_right.Statement.{statement}
@@ -24,8 +23,11 @@ shared-slice-read-hash-count-rest c = search rules
 hash-count-rest-requires : tie.Need-hash-count-rest-requires
 hash-count-rest-requires c κs = search rules
 
-after-hashes-requires : tie.Need-after-hashes-requires
-after-hashes-requires c κs = search rules
+mul_at : tie.Need-overflow-mul-at
+mul_at c = search rules
+
+add_at : tie.Need-overflow-add-at
+add_at c = search rules
 
 add-sized : tie.Need-overflow-add-sized
 add-sized c = search rules
@@ -33,22 +35,12 @@ add-sized c = search rules
 says-count-requires : tie.Need-says-count-requires
 says-count-requires c κs = search rules
 
-edition-in-requires : tie.Need-edition-in-requires
-edition-in-requires c κs = search rules
-
-most-hashes-requires : tie.Need-most-hashes-requires
-most-hashes-requires c κs = search rules
-
 returns-2 : tie.Need-returns-2
 returns-2 c =
-    let edition = c.before in
-    let counted = edition.before in
-    let after = counted.before in
-    let rest = after.before in
+    let rest = c.before in
     let many = rest.before.before in
     let long = many.before.before.before in
-    right_tests long.before.before.args.f.now long.if1.false (many.wide8.ensures ∙ many.before.hash-count-of.ensures) rest.hash-count-rest.ensures
-    (c.most-hashes.ensures.0 ∙ ap most_hashes edition.edition-in.ensures) after.after_hashes.ensures.0 counted.says-count.ensures
+    right_tests long.before.before.args.f.now long.if1.false (many.wide8.ensures ∙ many.before.hash-count-of.ensures) rest.hash-count-rest.ensures c.says-count.ensures
 
 pub is-right-spec : {M : Type 1} → statement M
 is-right-spec =
@@ -60,9 +52,8 @@ is-right-spec =
     wide8-requires
     shared-slice-read-hash-count-rest
     hash-count-rest-requires
-    after-hashes-requires
+    mul_at
+    add_at
     add-sized
     says-count-requires
-    edition-in-requires
-    most-hashes-requires
     returns-2)

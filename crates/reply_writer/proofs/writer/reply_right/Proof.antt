@@ -1,8 +1,4 @@
 -- `reply_writer::writer::reply_right` meets its contract: a head and the four fields. Assumes nothing.
-use Prim.Native.Nat.{ℕ, ◌*◌}
-use mathlib.Core.Path.{ap, ap₂, ◌∙◌}
-use native.Mathlib.Omega.{arith}
-use Rattle.profile.specs.Edition.{Edition, hash_size, of_mark}
 use Rattle.reply_writer.proofs.Frames.{right-steps}
 use borrow.Author.Rules.{rules}
 use Rattle.reply_writer.proofs.writer.reply_right.Statement.{statement}
@@ -14,15 +10,6 @@ shared-slice-read-slot-hashes c = search rules
 slot-hashes-requires : tie.Need-slot-hashes-requires
 slot-hashes-requires c κs = search rules
 
-shared-slice-read-slot-long : tie.Need-shared-slice-read-slot-long
-shared-slice-read-slot-long c = search rules
-
-slot-long-requires : tie.Need-slot-long-requires
-slot-long-requires c κs = search rules
-
-of-mark-requires : tie.Need-of-mark-requires
-of-mark-requires c κs = search rules
-
 success-of-requires : tie.Need-success-of-requires
 success-of-requires c κs = search rules
 
@@ -32,18 +19,11 @@ count-in-requires c κs = search rules
 word-at-requires : tie.Need-word-at-requires
 word-at-requires c κs = search rules
 
-cast-bytes-of : tie.Need-overflow-cast-bytes-of
-cast-bytes-of c = search rules
+cast-size : tie.Need-overflow-cast-size
+cast-size c = search rules
 
-bytes-of-requires : tie.Need-bytes-of-requires
-bytes-of-requires c κs =
-    let marked = c.before.before.before in
-    let many = marked.before.before.before in
-    let start = many.before.before.before.before in
-    rw (marked.of-mark.ensures, marked.before.slot_long.ensures, many.slot-hashes.ensures) start.requires.2
-
-cast-put-head : tie.Need-overflow-cast-put-head
-cast-put-head c = search rules
+mul-size : tie.Need-overflow-mul-size
+mul-size c = search rules
 
 add-put-head : tie.Need-overflow-add-put-head
 add-put-head c = search rules
@@ -66,6 +46,9 @@ slice-aggregate-put-bytes c = search rules
 put-bytes-requires : tie.Need-put-bytes-requires
 put-bytes-requires c κs = search rules
 
+cast-n : tie.Need-overflow-cast-n
+cast-n c = search rules
+
 put-part-requires : tie.Need-put-part-requires
 put-part-requires c κs = search rules
 
@@ -76,13 +59,7 @@ cast-put-part : tie.Need-overflow-cast-put-part
 cast-put-part c = search rules
 
 put-part-requires-2 : tie.Need-put-part-requires-2
-put-part-requires-2 c κs =
-    let fronted = c.before.before.before.before.before.before.before in
-    let keyed = fronted.before.before.before.before.before.before in
-    let sized = keyed.before.before.before.before.before.before in
-    let start = sized.before.before.before.before.before.before.before.before.before.before.before in
-    let long = sized.before.word_at.ensures in
-    (omega (arith, sized.bytes_of.ensures.1, long, start.requires.0, start.requires.3), omega (arith, long, start.requires.1, start.requires.3))
+put-part-requires-2 c κs = search rules
 
 same_length : tie.Need-same-length
 same_length c = search rules
@@ -95,17 +72,14 @@ returns c =
     let made = fronted.before.before.before in
     let keyed = made.before.before.before in
     let headed = keyed.before.before.before.before in
-    let sized = headed.before.before in
-    let long = sized.before in
+    let long = headed.before.before in
     let counted = long.before in
     let second = counted.before in
-    let marked = second.before in
-    let many = marked.before.before.before in
+    let many = second.before in
     let start = many.before.before.before.before in
     let a = start.args in
-    right-steps a.slot.now a.reply.now start.requires.1 start.requires.3 start.requires.2 many.slot-hashes.ensures
-    (sized.bytes_of.ensures.0 ∙ ap₂ (λ (e : Edition) (n : ℕ). hash_size e * n) (marked.of-mark.ensures ∙ ap of_mark marked.before.slot_long.ensures) many.slot-hashes.ensures)
-    second.success-of.ensures counted.count-in.ensures long.word_at.ensures made.right-head.ensures
+    right-steps a.slot.now a.reply.now start.requires.1 start.requires.3 start.requires.2
+    many.slot-hashes.ensures second.success-of.ensures counted.count-in.ensures long.word_at.ensures made.right-head.ensures
     headed.put-head.ensures keyed.put-key.ensures fronted.put-bytes.ensures hashed.put-part.ensures last.put-part2.ensures start.requires.0
 
 pub reply-right-spec : {M : Type 1} → statement M
@@ -114,15 +88,11 @@ reply-right-spec =
     (tie.spec
     shared-slice-read-slot-hashes
     slot-hashes-requires
-    shared-slice-read-slot-long
-    slot-long-requires
-    of-mark-requires
     success-of-requires
     count-in-requires
     word-at-requires
-    cast-bytes-of
-    bytes-of-requires
-    cast-put-head
+    cast-size
+    mul-size
     add-put-head
     add-put-head-2
     put-head-requires
@@ -130,6 +100,7 @@ reply-right-spec =
     right-head-requires
     slice-aggregate-put-bytes
     put-bytes-requires
+    cast-n
     put-part-requires
     add-put-part
     cast-put-part

@@ -1,13 +1,10 @@
 -- `request_reader::reader::install_fields` meets its contract, test by test. Assumes nothing.
 use mathlib.Core.Path.{◌∙◌}
 use Rattle.request_reader.proofs.Choices.{was_false, was_true}
-use Rattle.request_reader.proofs.InstallTests.{few_enough, hashes_out, zero_bit_set, no_payload, long-payload, installs}
+use Rattle.request_reader.proofs.InstallTests.{hashes_out, zero_bit_set, no_payload, long-payload, installs}
 use borrow.Author.Rules.{rules}
 use Rattle.request_reader.proofs.reader.install_fields.Statement.{statement}
 use Rattle.request_reader.proofs.reader.install_fields.Tie as tie
-
-edition-in-requires : tie.Need-edition-in-requires
-edition-in-requires c κs = search rules
 
 shared-slice-read-hash-count-of : tie.Need-shared-slice-read-hash-count-of
 shared-slice-read-hash-count-of c = search rules
@@ -27,14 +24,7 @@ refuse-requires c κs = search rules
 returns : tie.Need-returns
 returns c =
     let fit = c.before.before in
-    let told = fit.before.before in
-    hashes_out
-    _
-    _
-    told.before.before.edition-in.ensures
-    (fit.before.wide.ensures ∙ told.hash-count-of.ensures)
-    (was_false fit.hashes_fit.ensures c.before.if1.true)
-    c.refuse.ensures
+    hashes_out _ _ (fit.before.wide.ensures ∙ fit.before.before.hash-count-of.ensures) (was_false fit.hashes_fit.ensures c.before.if1.true) c.refuse.ensures
 
 shared-slice-read-hash-count-rest : tie.Need-shared-slice-read-hash-count-rest
 shared-slice-read-hash-count-rest c = search rules
@@ -49,21 +39,17 @@ returns-2 : tie.Need-returns-2
 returns-2 c =
     let rest = c.before.before in
     let fit = rest.before.before.before in
-    let told = fit.before.before in
     zero_bit_set
     _
     _
-    told.before.before.edition-in.ensures
-    (fit.before.wide.ensures ∙ told.hash-count-of.ensures)
+    (fit.before.wide.ensures ∙ fit.before.before.hash-count-of.ensures)
     (was_true fit.hashes_fit.ensures rest.before.before.if1.false)
     rest.hash-count-rest.ensures
     c.before.if2.true
     c.refuse2.ensures
 
-bytes-of-requires : tie.Need-bytes-of-requires
-bytes-of-requires c κs =
-    let passed = c.before.before.before in
-    few_enough _ _ (was_true passed.before.hashes_fit.ensures passed.if1.false)
+mul-start : tie.Need-overflow-mul-start
+mul-start c = search rules
 
 add_start : tie.Need-overflow-add-start
 add_start c = search rules
@@ -73,19 +59,15 @@ refuse-requires-3 c κs = search rules
 
 returns-3 : tie.Need-returns-3
 returns-3 c =
-    let start = c.before.before in
-    let rest = start.before.before in
+    let rest = c.before.before.before in
     let fit = rest.before.before.before in
-    let told = fit.before.before in
     no_payload
     _
     _
-    told.before.before.edition-in.ensures
-    (fit.before.wide.ensures ∙ told.hash-count-of.ensures)
+    (fit.before.wide.ensures ∙ fit.before.before.hash-count-of.ensures)
     (was_true fit.hashes_fit.ensures rest.before.before.if1.false)
     rest.hash-count-rest.ensures
-    start.before.if2.false
-    start.bytes_of.ensures.0
+    c.before.before.if2.false
     c.before.if3.true
     c.refuse3.ensures
 
@@ -97,19 +79,15 @@ refuse-requires-4 c κs = search rules
 
 returns-4 : tie.Need-returns-4
 returns-4 c =
-    let start = c.before.before.before in
-    let rest = start.before.before in
+    let rest = c.before.before.before.before in
     let fit = rest.before.before.before in
-    let told = fit.before.before in
     long-payload
     _
     _
-    told.before.before.edition-in.ensures
-    (fit.before.wide.ensures ∙ told.hash-count-of.ensures)
+    (fit.before.wide.ensures ∙ fit.before.before.hash-count-of.ensures)
     (was_true fit.hashes_fit.ensures rest.before.before.if1.false)
     rest.hash-count-rest.ensures
-    start.before.if2.false
-    start.bytes_of.ensures.0
+    c.before.before.before.if2.false
     c.before.before.if3.false
     c.before.if4.true
     c.refuse4.ensures
@@ -119,19 +97,15 @@ install-count-requires c κs = search rules
 
 returns-5 : tie.Need-returns-5
 returns-5 c =
-    let start = c.before.before.before in
-    let rest = start.before.before in
+    let rest = c.before.before.before.before in
     let fit = rest.before.before.before in
-    let told = fit.before.before in
     installs
     _
     _
-    told.before.before.edition-in.ensures
-    (fit.before.wide.ensures ∙ told.hash-count-of.ensures)
+    (fit.before.wide.ensures ∙ fit.before.before.hash-count-of.ensures)
     (was_true fit.hashes_fit.ensures rest.before.before.if1.false)
     rest.hash-count-rest.ensures
-    start.before.if2.false
-    start.bytes_of.ensures.0
+    c.before.before.before.if2.false
     c.before.before.if3.false
     c.before.if4.false
     c.install-count.ensures
@@ -140,7 +114,6 @@ pub install-fields-spec : {M : Type 1} → statement M
 install-fields-spec =
     tie.close
     (tie.spec
-    edition-in-requires
     shared-slice-read-hash-count-of
     hash-count-of-requires
     wide-requires
@@ -151,7 +124,7 @@ install-fields-spec =
     hash-count-rest-requires
     refuse-requires-2
     returns-2
-    bytes-of-requires
+    mul-start
     add_start
     refuse-requires-3
     returns-3

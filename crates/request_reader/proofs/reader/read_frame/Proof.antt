@@ -35,26 +35,15 @@ shared-slice-read-frame-version c = search rules
 frame-version-requires : tie.Need-frame-version-requires
 frame-version-requires c κs = search rules
 
-is-version-requires : tie.Need-is-version-requires
-is-version-requires c κs = search rules
-
 refuse-requires-3 : tie.Need-refuse-requires-3
 refuse-requires-3 c κs = search rules
 
 returns-3 : tie.Need-returns-3
 unfolding asked
 returns-3 c =
-    let known = c.before.before in
-    let version = known.before in
+    let version = c.before.before in
     let long = version.before.before.before in
-    search (
-      tests,
-      not-true known.is-version.result c.before.if3.true,
-      ← known.is-version.ensures,
-      ← version.frame_version.ensures,
-      ← long.wide_word.ensures,
-      ← long.before.word_at.ensures,
-    )
+    search (tests, ← version.frame_version.ensures, ← long.wide_word.ensures, ← long.before.word_at.ensures)
 
 shared-slice-read-frame-kind : tie.Need-shared-slice-read-frame-kind
 shared-slice-read-frame-kind c = search rules
@@ -76,21 +65,10 @@ unfolding asked
 returns-4 c =
     let zero = c.before.before in
     let told = zero.before.before in
-    let passed = told.before.before in
-    let known = passed.before in
-    let version = known.before in
+    let version = told.before.before.before in
     let long = version.before.before.before in
-    search (
-      tests,
-      not-true zero.zero_bits.result c.before.if4.true,
-      ← zero.zero_bits.ensures,
-      ← told.frame_kind.ensures,
-      not-false known.is-version.result passed.if3.false,
-      ← known.is-version.ensures,
-      ← version.frame_version.ensures,
-      ← long.wide_word.ensures,
-      ← long.before.word_at.ensures,
-    )
+    search
+    (tests, not-true zero.zero_bits.result c.before.if4.true, ← zero.zero_bits.ensures, ← told.frame_kind.ensures, ← version.frame_version.ensures, ← long.wide_word.ensures, ← long.before.word_at.ensures)
 
 shared-slice-read-flag-of : tie.Need-shared-slice-read-flag-of
 shared-slice-read-flag-of c = search rules
@@ -108,22 +86,10 @@ returns-5 c =
     let left = flagged.before.before in
     let zero = left.before in
     let told = zero.before.before in
-    let passed = told.before.before in
-    let known = passed.before in
-    let version = known.before in
+    let version = told.before.before.before in
     let long = version.before.before.before in
-    search (
-      tests,
-      not-false zero.zero_bits.result left.if4.false,
-      ← flagged.flag-of.ensures,
-      ← zero.zero_bits.ensures,
-      ← told.frame_kind.ensures,
-      not-false known.is-version.result passed.if3.false,
-      ← known.is-version.ensures,
-      ← version.frame_version.ensures,
-      ← long.wide_word.ensures,
-      ← long.before.word_at.ensures,
-    )
+    search
+    (tests, not-false zero.zero_bits.result left.if4.false, ← flagged.flag-of.ensures, ← zero.zero_bits.ensures, ← told.frame_kind.ensures, ← version.frame_version.ensures, ← long.wide_word.ensures, ← long.before.word_at.ensures)
 
 pub read-frame-spec : {M : Type 1} → statement M
 read-frame-spec =
@@ -138,7 +104,6 @@ read-frame-spec =
     returns-2
     shared-slice-read-frame-version
     frame-version-requires
-    is-version-requires
     refuse-requires-3
     returns-3
     shared-slice-read-frame-kind

@@ -3,7 +3,6 @@ use Prim.Native.Nat.{ℕ}
 use mathlib.Core.Path.{ap, ◌∙◌}
 use mathlib.Core.List.{◌∷◌}
 use Rattle.profile.specs.Bytes.{Bytes, word_bytes}
-use Rattle.profile.specs.declared.Edition.TheVariants.{First}
 use Rattle.profile.specs.Frame.{frame_head}
 use borrow.Author.Rules.{rules}
 use Rattle.request_writer.proofs.frames.request_head.Statement.{statement}
@@ -19,7 +18,7 @@ returns : tie.Need-returns
 returns c =
     let second = c.before in
     let start = second.before in
-    c.frame-start.ensures ∙ ap {B = Bytes} (λ (x : ℕ). frame_head First start.args.kind ∷ x ∷ word_bytes start.args.n) second.request-second.ensures
+    c.frame-start.ensures ∙ ap {B = Bytes} (λ (x : ℕ). frame_head start.args.kind ∷ x ∷ word_bytes start.args.n) second.request-second.ensures
 
 pub request-head-spec : {M : Type 1} → statement M
 request-head-spec = tie.close (tie.spec request-second-requires frame-start-requires returns)

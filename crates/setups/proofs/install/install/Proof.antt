@@ -3,7 +3,7 @@ use Prim.Native.Nat.{◌+◌, ◌*◌}
 use mathlib.Core.Path.{◌≡◌, ap, ◌∙◌}
 use native.Mathlib.Omega.{arith}
 use lib.ListN.{length}
-use Rattle.profile.specs.Edition.{hash_size}
+use Rattle.profile.specs.Sizes.{hash_size}
 use Rattle.profile.specs.Slot.{Right}
 use Rattle.profile.specs.Table.{length_of}
 use Rattle.profile.proofs.Strings.{length_part}
@@ -34,10 +34,10 @@ room-is r = r.word_at.ensures ∙ ap length_of (r.before.slot_at.ensures.0 ∙ (
 
 -- the right that the request has, and the length of its payload
 abbrev right : tie.Start → Right
-right s = right_from s.args.edition s.args.key s.args.count s.args.hashes s.args.size s.args.frame.now s.args.at
+right s = right_from s.args.key s.args.count s.args.hashes s.args.size s.args.frame.now s.args.at
 
 size_is : (s : tie.Start) → length (right s).payload ≡ s.args.size
-size_is s = length_part (s.args.at + hash_size s.args.edition * s.args.hashes) s.args.size s.args.frame.now (omega (arith, s.requires.1.inside))
+size_is s = length_part (s.args.at + hash_size * s.args.hashes) s.args.size s.args.frame.now (omega (arith, s.requires.1.inside))
 
 slot-under-requires : tie.Need-slot-under-requires
 slot-under-requires c κs = search rules
@@ -84,13 +84,13 @@ store-right-requires c κs =
     let at = c.before.before.before.before.before.before in
     let sent = (start at.before.before).requires.1 in
     let w = found at in
-    (w.has, w.place_is, sent.some_hash, sent.few, sent.short, sent.inside)
+    (w.has, w.place_is, sent.few, sent.short, sent.inside)
 
 reply-status-requires-3 : tie.Need-reply-status-requires-3
 reply-status-requires-3 c κs = search rules
 
-cast-t37 : tie.Need-overflow-cast-t37
-cast-t37 c = search rules
+cast-t36 : tie.Need-overflow-cast-t36
+cast-t36 c = search rules
 
 same-length-3 : tie.Need-same-length-3
 same-length-3 c = search rules
@@ -139,7 +139,7 @@ install-spec =
     returns
     store-right-requires
     reply-status-requires-3
-    cast-t37
+    cast-t36
     same-length-3
     same-length-4
     returns-2

@@ -26,7 +26,7 @@ slot-head-requires c κs =
     let placed = c.before.before in
     let known = placed.before.before.before.before.before in
     let s = known.before.args.s.now in
-    (omega (arith, placed.slot-place.ensures, below_256 s known.slice-known.given 0), omega (arith, c.slot-hashes.ensures), omega arith, omega arith)
+    (omega (arith, placed.slot-place.ensures, below_256 s known.slice-known.given 0), omega (arith, c.slot-hashes.ensures), omega arith)
 
 slice-write-s : tie.Need-slice-write-s
 slice-write-s c = search rules

@@ -3,7 +3,7 @@ use mathlib.Core.Path.{◌≡◌, refl, ap, ◌∙◌}
 use native.Mathlib.Omega.{arith}
 use Prim.Native.Nat.{ℕ, ◌+◌, ◌-◌, ◌*◌, ◌≤◌}
 use lib.ListN.{length}
-use Rattle.turning.proofs.Marked.{marked_to, marked_length, marked_none, marked_all, lent-marks, mark_again}
+use Rattle.turning.proofs.Marked.{marked_to, marked_length, marked_none, marked_all, lent-marks, mark-again}
 use borrow.Author.Rules.{rules}
 use Rattle.turning.proofs.marks.mark_slots.Statement.{statement}
 use Rattle.turning.proofs.marks.mark_slots.Tie as tie
@@ -52,7 +52,7 @@ loop-again c =
     let start = l.before.before in
     let t = start.args.t.now in
     let i = l.loop.i in
-    let e = mark_again t start.requires.0 i mark.before.before.loop-test.true (4288 * i + 4288 - 4288 * i) (omega arith) l.loop.t l.loop.invariant.1.0 mark.mark-slot.new.0 mark.mark-slot.ensures in
+    let e = mark-again t start.requires.0 i mark.before.before.loop-test.true (4288 * i + 4288 - 4288 * i) (omega arith) l.loop.t l.loop.invariant.1.0 mark.mark-slot.new.0 mark.mark-slot.ensures in
     (omega arith, (e, ap length e ∙ marked_length t start.requires.0 (i + 1)))
 
 same_length : tie.Need-same-length invariant-loop decreases-loop
