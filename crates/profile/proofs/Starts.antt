@@ -247,7 +247,7 @@ run_beside b [] [] o = record { same_numbers = refl; same_exchanges = refl; same
 run_beside b [] (d ∷ ds) o = absurd o
 run_beside b (c ∷ cs) [] o = absurd o
 run_beside {l} {table} {other} b (c ∷ cs) (d ∷ ds) o =
-    let rest = run_beside (after b o.0) cs ds (rw (sound_count l table b.sound c) o.1) in
+    let rest = run_beside {l = history l (exchange (read_request c.request) (agent table c))} {table = (agent table c).table} {other = (agent other d).table} (after b o.0) cs ds (rw (sound_count l table b.sound c) o.1) in
     let told = ap₂ (λ (xs ys : List Exchange). xs ++ ys) (same_told b o.0) rest.same_exchanges in
     record {
       same_numbers = ap₂ {C = List ℕ} (λ (n : ℕ) (ns : List ℕ). n ∷ ns) (same_outcome b o.0).number rest.same_numbers;

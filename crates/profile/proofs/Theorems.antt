@@ -42,7 +42,7 @@ use Rattle.profile.proofs.DemandCases.{demands_hold}
 use Rattle.profile.proofs.StartCases.{starts_hold}
 use Rattle.profile.proofs.TallyCases.{tallies_hold}
 use Rattle.profile.proofs.UnlistedCases.{unlisted_hold}
-use Rattle.profile.proofs.Unlisted.{in_use, when_lent, none_comes, all_have_one, by_course}
+use Rattle.profile.proofs.Unlisted.{in_use_lem, when_lent, none_comes, all_have_one, by_course}
 use Rattle.profile.proofs.SalvageCases.{salvages_hold}
 use Rattle.profile.proofs.TotalCases.{totals_hold_lem}
 use Rattle.profile.proofs.Total.{change_within, refused_return, refused_108, called, gives_108, change_unread, stays_within}
@@ -129,7 +129,7 @@ theorems =
       only_9 = only_9;
       returned_anyway = returned_anyway;
       slot_never_rises = slot_never_rises;
-      in_use = in_use;
+      in_use = in_use_lem;
       when_lent = when_lent;
       none_comes = none_comes;
       all_have_one = all_have_one;

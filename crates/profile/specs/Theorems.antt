@@ -61,7 +61,7 @@ pub record Packs (t : List Slot) : Type 0 where
 pub record Turns (table : Bytes) (o : Turned) : Type 0 where
   pub whole : whole_slots o.table ≡ true
   pub well : well_table o.table ≡ true
-  pub Hold : slots_of o.table ≡ map unpack_before (slot_bytes table)
+  pub holds : slots_of o.table ≡ map unpack_before (slot_bytes table)
   pub others : map (drop 1) (slot_bytes o.table) ≡ map (drop 1) (slot_bytes table)
 
 -- a table whole and well formed
