@@ -1,4 +1,6 @@
 // Whether a call is let in: the tests that come before its frame (PROFILE 4.1). Nothing is changed.
+#![tactic(auto)]
+
 ghost use Rattle.std.specs.Prelude.{◌≡◌};
 ghost use Rattle.admission.specs.Tests.{tests_of};
 

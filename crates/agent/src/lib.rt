@@ -1,4 +1,6 @@
 // The card agent: one call, with a lent table of slots and its tally, a start, a request frame and a lent reply buffer (PROFILE 1.1).
+#![tactic(auto)]
+
 ghost use Rattle.std.specs.Prelude.{◌≡◌};
 ghost use Rattle.profile.specs.Table.{slots_of};
 ghost use Rattle.profile.specs.Agent.{agent};

@@ -1,4 +1,6 @@
 // Bytes written into a lent buffer; all its other bytes stay as they are.
+#![tactic(auto)]
+
 ghost use Rattle.std.specs.Prelude.{◌≡◌, ◌∷◌, ◌+◌, ◌≤◌, ◌<◌, length};
 ghost use Rattle.profile.specs.Bytes.{part, word_bytes};
 ghost use Rattle.buffers.specs.Over.{over_at};

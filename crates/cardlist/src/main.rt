@@ -1,4 +1,6 @@
 // The program `cardlist` (PROFILE 7.3): it reads a table from standard input and prints its listing.
+#![tactic(auto)]
+
 use libc::{STDIN_FILENO, STDOUT_FILENO};
 use listing::LISTING_ROOM;
 use profile::sizes::{MOST_SLOTS, SLOT_BYTES};

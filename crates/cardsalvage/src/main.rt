@@ -1,5 +1,7 @@
 // The program `cardsalvage` (PROFILE 2.11): it reads a table from standard input, prints the table left of it to standard output, and what
 // was found of each slot to standard error.
+#![tactic(auto)]
+
 use libc::{STDERR_FILENO, STDIN_FILENO, STDOUT_FILENO};
 use profile::sizes::{MOST_SLOTS, SLOT_BYTES};
 use reports::REPORT_ROOM;

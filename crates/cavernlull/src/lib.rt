@@ -1,6 +1,8 @@
 // What a front end or a device links: eight functions under C's calling convention, declared for C in include/cavernlull.h. In C a slice is
 // a pointer and then a length, and an array is a pointer. Any bytes and any lengths may be lent. What is lent to be changed shares no byte
 // with anything else that is lent in the same call.
+#![tactic(auto)]
+
 use crate::numbers::REPLY_NUMBERS;
 use listing::LISTING_ROOM;
 use profile::Tally;
@@ -11,11 +13,11 @@ use request_fields::Plain;
 mod numbers; // numbers.rt: a reply as eleven numbers
 
 ghost use Rattle.std.specs.Prelude.{◌≡◌, length};
-ghost use Rattle.profile.specs.Agent.{agent as agentOf};
+ghost use Rattle.profile.specs.Agent.{agent as agent_of};
 ghost use Rattle.profile.specs.Bytes.{over};
 ghost use Rattle.profile.specs.Device.{fields_with, write};
 ghost use Rattle.profile.specs.Listing.{listing};
-ghost use Rattle.profile.specs.Salvage.{salvage as salvageOf};
+ghost use Rattle.profile.specs.Salvage.{salvage as salvage_of};
 ghost use Rattle.profile.specs.Tally.{tallied, work_out};
 ghost use Rattle.profile.specs.Total.{totals_with, totalling};
 ghost use Rattle.profile.specs.Turning.{turn as turn_of};
@@ -37,7 +39,7 @@ pub extern "C" fn cavernlull_call(
     frame: &[u8],
     reply: &mut [u8],
 ) -> u16
-    ensures { outcome result reply.new table.new tally.new ≡ agentOf table.old (call_of tally.old start frame.now reply.old) }
+    ensures { outcome result reply.new table.new tally.new ≡ agent_of table.old (call_of tally.old start frame.now reply.old) }
 {
     let done = agent::call(table, *tally, start, frame, reply);
     *tally = done.tally;
@@ -142,7 +144,7 @@ pub extern "C" fn cavernlull_turn(table: &mut [u8]) -> u16
 // byte of both stays. With 102 and 107 nothing is changed.
 #[unsafe(no_mangle)]
 pub extern "C" fn cavernlull_salvage(table: &mut [u8], report: &mut [u8]) -> u16
-    ensures { salvaged result table.new report.new ≡ salvageOf table.old report.old }
+    ensures { salvaged result table.new report.new ≡ salvage_of table.old report.old }
 {
     salvage::salvage(table, report)
 }

@@ -1,5 +1,7 @@
 // Every change of one slot in the middle of the lent table. The slot's part is lent on to a function that clears it or
 // stores into it; no byte of another slot changes, and no slot is copied.
+#![tactic(auto)]
+
 ghost use Rattle.std.specs.Prelude.{◌≡◌, ◌++◌, ◌+◌, ◌*◌, ◌≤◌, ◌<◌, length, take, drop, set};
 ghost use Rattle.profile.specs.Bytes.{zeros};
 ghost use Rattle.profile.specs.Sizes.{slot_size, hash_size, most_hashes, most_payload};

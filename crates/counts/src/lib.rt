@@ -1,6 +1,8 @@
 // A count by its bit and its number, as slots and frames have them (PROFILE 2.6).
+#![tactic(auto)]
+
 ghost use Rattle.std.specs.Prelude.{◌≡◌, ◌<◌};
-ghost use Rattle.profile.specs.Slot.{kept_bit, count_number, count_holds, count_with, raises as countRaises};
+ghost use Rattle.profile.specs.Slot.{kept_bit, count_number, count_holds, count_with, raises as count_raises};
 
 use profile::Count;
 
@@ -44,7 +46,7 @@ pub fn number_of(count: Count) -> u16
 
 // Whether the count sent raises the one that is stored (PROFILE 5.5): exactly one of them is kept, or both are and the one sent is greater.
 pub fn raises(stored: Count, sent: Count) -> bool
-    ensures { result ≡ countRaises stored sent }
+    ensures { result ≡ count_raises stored sent }
 {
     match stored {
         Count::NoneKept => match sent {

@@ -11,14 +11,14 @@ use slots::place::Place;
 use tables::lookup::Lookup;
 
 // Refused with a status; or taken: the slot of the record, and the record's place.
-#[derive(Drop)]
+#[derive(Clone, Copy)]
 pub enum Decision {
     Refuse(u8),
     Take(usize, Place),
 }
 
 // Of which places a kind of request takes a record.
-#[derive(Drop)]
+#[derive(Clone, Copy)]
 pub struct Takes {
     pub reserved: bool,
     pub enabled: bool,

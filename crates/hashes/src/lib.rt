@@ -1,4 +1,6 @@
 // The hashes of a record against those of a list query (PROFILE 5.8), which are lent and not copied.
+#![tactic(auto)]
+
 ghost use Rattle.std.specs.Prelude.{◌≡◌, [], ◌∷◌, ◌≤◌, ◌*◌, length};
 ghost use Rattle.profile.specs.Bytes.{pieces, same, any, if◌then◌else◌};
 ghost use Rattle.profile.specs.Sizes.{slot_size, hash_size, most_hashes};

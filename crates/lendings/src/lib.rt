@@ -1,5 +1,7 @@
 // Kinds 3 and 4, Rights Retrieval and REK Query: a right is lent. They differ in what the reply gives. Every check precedes every
 // change.
+#![tactic(auto)]
+
 ghost use Rattle.std.specs.Prelude.{◌≡◌, ◌*◌, ◌≤◌, length};
 ghost use Rattle.profile.specs.Bytes.{over};
 ghost use Rattle.profile.specs.Sizes.{slot_size, reply_room, most_hashes, most_payload};

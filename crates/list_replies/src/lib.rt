@@ -1,4 +1,6 @@
 // The reply of kind 8 (PROFILE 3.4): the handles are written first, one by one, and then what stands in front of them.
+#![tactic(auto)]
+
 ghost use Rattle.std.specs.Prelude.{◌≡◌, ◌+◌, ◌*◌, ◌≤◌, length};
 ghost use Rattle.profile.specs.Bytes.{over};
 ghost use Rattle.profile.specs.Sizes.{most_slots, handle_size, handle_at};

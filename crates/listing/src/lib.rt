@@ -1,4 +1,6 @@
 // The listing of a table, as the program `cardlist` prints it (PROFILE 7.1): a header, and then a line for each slot.
+#![tactic(auto)]
+
 ghost use Rattle.std.specs.Prelude.{◌≡◌, length};
 ghost use Rattle.profile.specs.Bytes.{over};
 ghost use Rattle.profile.specs.Listing.{listing};

@@ -8,7 +8,7 @@ use Rattle.profile.specs.Agent.{Call}
 use Rattle.profile.specs.History.{for_use, lent, gone, Ledger, Exchange}
 use Rattle.profile.specs.CaseBytes.{hex, changed, renamed, H0, H1, H2, H3, H4, K, A, five}
 use Rattle.profile.specs.CaseTables.{blank, after1, after7, after9, after11, last1, lent1, used_up, lent2, hashed2}
-use Rattle.profile.specs.Cases.{Case, buffer, expected, done, gives, refused, stopped, from, keeps, enable as back, enable_free as backFree}
+use Rattle.profile.specs.Cases.{Case, buffer, expected, done, gives, refused, stopped, from, keeps, enable as back, enable_free as back_free}
 use Rattle.profile.specs.Total.{Return, no_return, returned, return_by, return_in, change, Totals, totals_with, totals_hold, Totalled, totalling}
 use Rattle.profile.specs.Totals.{Within, returns_told, changes_of, counted_in, totals_then, table_totalled, calls_made, FrameBytes, no_totals}
 
@@ -64,9 +64,9 @@ cases =
     totals (done lent1 (back H2 "00 00") used_up) no_totals (totals_with (below 1) 1) (below 1)
     ∷ totals (refused lent1 (back H2 "00 04") "09") (totals_with (below 1) 1) (totals_with (below 1) 1) (pos 0)
     ∷ totals (done lent1 (back H2 "00 01") (changed 28 0x01 used_up)) (totals_with (below 1) 1) (totals_with (below 1) 2) (pos 0)
-    ∷ uncounted (refused lent1 (backFree H2 "00 00") "09")
+    ∷ uncounted (refused lent1 (back_free H2 "00 00") "09")
     ∷ uncounted (refused after9 (back H2 "00 03") "09")
-    ∷ uncounted (done after9 (backFree H2 "00 00") (renamed H2 after7))
+    ∷ uncounted (done after9 (back_free H2 "00 00") (renamed H2 after7))
     ∷ uncounted (done after11 (back H2 "00 04") after11)
     ∷ totals (done lent1 (back H2 "00 00") used_up) (totals_with (below 1965984465) 29999) (totals_with (below 1965984466) 30000) (below 1)
     -- case 26

@@ -1,4 +1,6 @@
 // The two kinds that only read the table: 8, the Handle List Query, and 9, the Rights Information Query.
+#![tactic(auto)]
+
 ghost use Rattle.std.specs.Prelude.{◌≡◌, ◌+◌, ◌*◌, ◌≤◌, length, drop};
 ghost use Rattle.profile.specs.Bytes.{pieces};
 ghost use Rattle.profile.specs.Sizes.{hash_size, most_hashes};

@@ -1,4 +1,6 @@
 // Kinds 6 and 7, Rights Removal and Handle Removal: the slot of a record is cleared. They differ in the places that they take.
+#![tactic(auto)]
+
 ghost use Rattle.std.specs.Prelude.{◌<◌};
 ghost use Rattle.profile.specs.Table.{slots_of};
 ghost use Rattle.profile.specs.Agent.{find, when_found};

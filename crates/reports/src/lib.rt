@@ -1,4 +1,6 @@
 // A salvage with its report in words, as the program `cardsalvage` prints them (PROFILE 2.11).
+#![tactic(auto)]
+
 ghost use Rattle.reports.specs.Printing.{Prints};
 
 use profile::sizes::{MOST_SLOTS, SLOT_BYTES};

@@ -1,4 +1,6 @@
 // The fields that the request writer is given (PROFILE 6.2), and which of them a kind allows: the tests that give 202.
+#![tactic(auto)]
+
 ghost use Rattle.std.specs.Prelude.{◌≡◌, ◌&&◌, leb, length};
 ghost use Rattle.profile.specs.Bytes.{all_zero, from1to};
 ghost use Rattle.profile.specs.Sizes.{most_payload};

@@ -8,7 +8,7 @@ use profile::Count;
 use profile::sizes::{HANDLE_BYTES, KEY_BYTES};
 
 // Why a frame is no request: the number 104, or the status 1, 2 or 3 (PROFILE 4.1 and 4.3).
-#[derive(Drop)]
+#[derive(Clone, Copy)]
 pub enum Why {
     NoFrame,
     Integrity,

@@ -1,5 +1,7 @@
 // Kind 5, Rights Enablement: a right that was lent is returned. Every check precedes every change, and the reply is written with the
 // change.
+#![tactic(auto)]
+
 ghost use Rattle.std.specs.Prelude.{◌≡◌, [], ◌≤◌, length};
 ghost use Rattle.profile.specs.Bytes.{over};
 ghost use Rattle.profile.specs.Frame.{frame};

@@ -1,8 +1,10 @@
 // Where a table has room.
+#![tactic(auto)]
+
 ghost use Rattle.std.specs.Prelude.{◌≡◌, ◌<◌};
 ghost use Rattle.profile.specs.Table.{slot_count, slots_of};
 ghost use Rattle.profile.specs.Agent.{first_empty_from};
-ghost use Rattle.profile.specs.Laws.{onward as onwardOf};
+ghost use Rattle.profile.specs.Laws.{onward as onward_of};
 
 use profile::sizes::SLOT_BYTES;
 use tables::part::slot_at;
@@ -10,7 +12,7 @@ use tables::part::slot_at;
 // Of n slots, the one that is k steps on from the start: after the last one comes slot 0.
 fn onward(n: usize, start: usize, k: usize) -> usize
     requires { (start < n) × (k < n) }
-    ensures { result ≡ onwardOf n start k }
+    ensures { result ≡ onward_of n start k }
 {
     let ahead = n - start;
     if k < ahead {

@@ -1,6 +1,8 @@
 // The salvage of a damaged table (PROFILE 2.10): what is in order is kept, and all else is cleared.
+#![tactic(auto)]
+
 ghost use Rattle.std.specs.Prelude.{◌≡◌};
-ghost use Rattle.profile.specs.Salvage.{salvage as salvageOf};
+ghost use Rattle.profile.specs.Salvage.{salvage as salvage_of};
 ghost use Rattle.salvage.specs.Salvages.{salvaged};
 
 use profile::number::{REPORT_BUFFER_SHORT, TABLE_LENGTH};
@@ -12,7 +14,7 @@ mod slots_left; // slots_left.rt: the slots one after another, kept or cleared w
 // 102 where the table's length is none of a table's, then 107 where the report buffer has fewer bytes than the table has slots, with no
 // byte of either changed. Otherwise the number of slots cleared, each of them reported. Nothing is required of table or report.
 pub fn salvage(table: &mut [u8], report: &mut [u8]) -> u16
-    ensures { salvaged result table.new report.new ≡ salvageOf table.old report.old }
+    ensures { salvaged result table.new report.new ≡ salvage_of table.old report.old }
 {
     if !tables::part::whole_slots(table) {
         return TABLE_LENGTH;

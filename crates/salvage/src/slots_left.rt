@@ -2,7 +2,7 @@
 ghost use Rattle.std.specs.Prelude.{◌≡◌, [], true, ◌<◌, ◌≤◌, length, get_or, set, take};
 ghost use Rattle.profile.specs.Bytes.{over};
 ghost use Rattle.profile.specs.Table.{slot_count, whole_slots};
-ghost use Rattle.profile.specs.Salvage.{cleared as clearedOf, findings_of, left_of, report_of};
+ghost use Rattle.profile.specs.Salvage.{cleared as cleared_of, findings_of, left_of, report_of};
 ghost use Rattle.salvage.specs.Salvages.{Settled};
 
 use profile::finding::KEPT;
@@ -23,7 +23,7 @@ fn settle(t: &mut [u8], i: usize) -> u8
 // All slots. The report gets a byte for each, and those cleared are counted.
 pub(crate) fn leave_slots(t: &mut [u8], report: &mut [u8]) -> u16
     requires { (whole_slots t.old ≡ true) × (slot_count t.old ≤ length report.old) }
-    ensures { (result ≡ clearedOf (findings_of t.old)) × (t.new ≡ left_of t.old) × (report.new ≡ over (report_of t.old) report.old) }
+    ensures { (result ≡ cleared_of (findings_of t.old)) × (t.new ≡ left_of t.old) × (report.new ≡ over (report_of t.old) report.old) }
 {
     let n = t.len() / SLOT_BYTES;
     let mut cleared: u16 = 0;

@@ -1,4 +1,6 @@
 // What a frame does on a well-formed table: its refusal, or its request served by its kind (PROFILE 4.3 and 5).
+#![tactic(auto)]
+
 ghost use Rattle.std.specs.Prelude.{◌≡◌, ◌<◌, ◌≤◌};
 ghost use Rattle.profile.specs.Table.{slot_count, slots_of};
 ghost use Rattle.profile.specs.Frame.{kind_number};

@@ -8,7 +8,7 @@ use crate::place::Place;
 use profile::Count;
 use profile::slot::{COUNT_AT, LENGTH_AT};
 
-#[derive(Drop)]
+#[derive(Clone, Copy)]
 pub struct Head {
     pub place: Place,
     pub hashes: usize,

@@ -3,7 +3,7 @@ ghost use Rattle.std.specs.Prelude.{◌≡◌, ◌<◌, length};
 ghost use Rattle.profile.specs.Table.{place_of};
 ghost use Rattle.slots.specs.Places.{place_number};
 
-#[derive(Drop)]
+#[derive(Clone, Copy)]
 pub enum Place {
     Empty,
     Reserved,

@@ -1,4 +1,6 @@
 // The table of slots, read where it stands: nothing here writes.
+#![tactic(auto)]
+
 pub mod part; // part.rt: the table's slots, one by one
 pub mod handle; // handle.rt: slots under a handle
 mod marks; // marks.rt: handles told apart by one byte each

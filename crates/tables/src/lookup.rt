@@ -8,7 +8,7 @@ use profile::sizes::{HANDLE_BYTES, SLOT_BYTES};
 use slots::place::Place;
 
 // In no slot; or in one, with its number and the place of its record.
-#[derive(Drop)]
+#[derive(Clone, Copy)]
 pub enum Lookup {
     Absent,
     At(usize, Place),

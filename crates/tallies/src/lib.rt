@@ -1,4 +1,6 @@
 // The tally of a table (PROFILE 2.8): brought up to date from the one slot that changed, and worked out from the heads of all slots.
+#![tactic(auto)]
+
 pub mod count; // count.rt: a tally worked out from a table, and compared
 pub mod update; // update.rt: a tally brought up to date, by value
 

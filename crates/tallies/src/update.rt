@@ -2,14 +2,14 @@
 ghost use Rattle.std.specs.Prelude.{◌≡◌};
 ghost use Rattle.profile.specs.Tally.{plus};
 ghost use Rattle.tallies.specs.Shares.{share, less, Within, Small};
-ghost use Rattle.tallies.specs.Changes.{updated as updatedOf, Updates};
+ghost use Rattle.tallies.specs.Changes.{updated as updated_of, Updates};
 
 use profile::{Count, Tally};
 use slots::place::Place;
 
 // What a request did to the slots: none is in another place; or one is, with its place and length before and after. Of a right that is
 // returned, from disabled to enabled, length and count are told, before and after (PROFILE 4.4).
-#[derive(Drop)]
+#[derive(Clone, Copy)]
 pub enum Change {
     Same,
     Moved(Place, u16, Place, u16),
@@ -69,7 +69,7 @@ fn with(t: Tally, place: Place, length: u16) -> Tally
 // The tally after a change: one slot less of the place that it was in, and one more of the place that it is in.
 pub fn updated(t: Tally, change: Change) -> Tally
     requires { Updates t change }
-    ensures { result ≡ updatedOf t change }
+    ensures { result ≡ updated_of t change }
 {
     match change {
         Change::Same => t,

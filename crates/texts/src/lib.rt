@@ -1,4 +1,6 @@
 // Texts for people, put into a lent buffer piece by piece: each function gives the offset after what it put.
+#![tactic(auto)]
+
 ghost use Rattle.std.specs.Prelude.{◌+◌, ◌<◌, ◌≤◌, length};
 ghost use Rattle.texts.specs.Written.{Wrote, number, numbered, refusal};
 

@@ -7,7 +7,7 @@ use profile::Count;
 use tallies::update::Change;
 
 // The counts of a return that is counted, the one stored and the one sent; or that there is no such return.
-#[derive(Drop)]
+#[derive(Clone, Copy)]
 pub enum Counts {
     NotBoth,
     Both(u16, u16),

@@ -1,4 +1,6 @@
 // Returns and what they did to counts: the change of a call (PROFILE 4.4), and the call that keeps a running total (PROFILE 4.5).
+#![tactic(auto)]
+
 use profile::number::TOTAL_OUTSIDE;
 use profile::{Tallied, Tally};
 

@@ -8,7 +8,7 @@ use profile::sizes::{MOST_CHANGE, MOST_RETURNS};
 use tallies::update::Change;
 
 // Total and returns after a call, and its change.
-#[derive(Drop)]
+#[derive(Clone, Copy)]
 pub struct Added {
     pub total: i32,
     pub returns: u16,

@@ -1,4 +1,6 @@
 // Tables from before counts had their bit, turned once (PROFILE 2.7): each count that is not 0 gets its bit.
+#![tactic(auto)]
+
 ghost use Rattle.std.specs.Prelude.{◌≡◌};
 ghost use Rattle.profile.specs.Turning.{turn as turn_of};
 ghost use Rattle.turning.specs.Turns.{turned};

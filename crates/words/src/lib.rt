@@ -1,4 +1,6 @@
 // Numbers of 16 bits, most significant byte first: counts, lengths and limits.
+#![tactic(auto)]
+
 ghost use Rattle.std.specs.Prelude.{◌≡◌, ◌+◌, ◌*◌, ◌/◌, ◌%◌, ◌≤◌, length};
 ghost use Rattle.profile.specs.Bytes.{word, word_bytes};
 

@@ -1,4 +1,6 @@
 // Zero bytes: tested, since the unused bytes of a well-formed slot are zero, and written, where a slot is cleared.
+#![tactic(auto)]
+
 ghost use Rattle.std.specs.Prelude.{◌≡◌, ◌-◌, ◌≤◌, length};
 ghost use Rattle.profile.specs.Bytes.{part, all_zero, zeros};
 

@@ -11,7 +11,7 @@ use Rattle.cavernlull.proofs.Walk.T
 use Rattle.cavernlull.proofs.Walk.T'
 use Rattle.cavernlull.proofs.Walk.D
 use Rattle.cavernlull.proofs.Walk.D'
-use Rattle.profile.specs.Agent.{agent as agentOf}
+use Rattle.profile.specs.Agent.{agent as agent_of}
 use Rattle.serving.specs.Call.{outcome, call_of}
 use Rattle.agent.specs.contracts.call as agent
 use Rattle.agent.proofs.call.Symbol as agent-def
@@ -69,7 +69,7 @@ module _ {M : Type 1} {𝓤 : Ura M} (𝓛 : Logic 𝓤) (at_mem : Memory → SP
 
   -- what `agent::call` ensures of its result and the last bytes of table and reply
   abbrev Said : Tallied → List ℕ → List ℕ → Type 0
-  Said r xs zs = outcome r.number zs xs r.tally ≡ agentOf x.now (call_of h n y.now z.now)
+  Said r xs zs = outcome r.number zs xs r.tally ≡ agent_of x.now (call_of h n y.now z.now)
 
   -- what is left at the end: the tally's borrow, the tokens, the last bytes of reply and table, and the frame
   abbrev left : Tallied → List ℕ → List ℕ → List (Item 𝓤)

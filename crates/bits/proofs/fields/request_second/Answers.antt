@@ -2,11 +2,7 @@
 use native.Mathlib.Omega.{arith}
 use Prim.Native.Nat.{◌*◌, ◌%◌}
 use lib.Bits.{or_shifted}
-use Rattle.bits.proofs.fields.request_second.Statement.{statement}
-use Rattle.bits.proofs.fields.request_second.Tie as tie
+use Rattle.bits.proofs.fields.request_second.Goals as goal
 
-returns : tie.Need-returns
+pub returns : goal.returns
 returns c = omega (arith, or_shifted 1 7 (c.args.kept * 64 % 256) (omega arith))
-
-pub request-second-spec : {M : Type 1} → statement M
-request-second-spec = tie.close (tie.spec returns)

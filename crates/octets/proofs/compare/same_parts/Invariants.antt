@@ -1,0 +1,15 @@
+-- `octets::compare::same_parts` meets its contract. The invariant: the first i bytes agree. Assumes nothing.
+use mathlib.Core.Path.{◌≡◌, sym}
+use Prim.Native.Nat.{ℕ, ◌+◌, ◌≤◌, ◌<◌, ◌-◌}
+use native.Mathlib.Omega.{arith}
+use borrow.Author.Rules.{rules}
+use borrow.Author.Count.{below_more}
+use lib.ListN.{get_or}
+use Rattle.octets.proofs.Comparing.{parts_same, parts_differ}
+use Rattle.octets.proofs.compare.same_parts.Given as goal
+
+abbrev pub invariant-loop-i : goal.invariant-loop-i
+invariant-loop-i l = (l.i ≤ l.n) × ((k : ℕ) → k < l.i → get_or l.s (l.a + k) 0 ≡ get_or l.t (l.b + k) 0)
+
+abbrev pub decreases-loop-i : goal.decreases-loop-i
+decreases-loop-i l = l.n - l.i

@@ -1,0 +1,16 @@
+-- `zeros::all_zero` meets its contract. The invariant: what is left to look at decides the answer. Assumes nothing.
+use mathlib.Core.Path.{◌≡◌, refl, sym, ◌∙◌}
+use Prim.Native.Nat.{◌-◌}
+use native.Mathlib.Omega.{arith}
+use borrow.Author.Tests.{not-true, not-false}
+use lib.ListN.{length, drop, length-drop, length-take}
+use Rattle.profile.specs.Bytes.{all_zero}
+use Rattle.zeros.proofs.ZeroBytes.{zero_pass, zero_stop, zero_last}
+use borrow.Author.Rules.{rules}
+use Rattle.zeros.proofs.all_zero.Given as goal
+
+abbrev pub invariant-loop-rest : goal.invariant-loop-rest
+invariant-loop-rest l = all_zero l.s ≡ all_zero l.rest
+
+abbrev pub decreases-loop-rest : goal.decreases-loop-rest
+decreases-loop-rest l = length l.rest

@@ -1,0 +1,25 @@
+-- `zeros::zero_part` meets its contract. The invariant: what is left to look at decides the answer. Assumes nothing.
+use mathlib.Core.Path.{◌≡◌, refl, sym, ◌∙◌}
+use Prim.Native.Nat.{◌-◌}
+use native.Mathlib.Omega.{arith}
+use borrow.Author.Tests.{not-true, not-false}
+use lib.ListN.{length}
+use Rattle.profile.specs.Bytes.{part, all_zero}
+use Rattle.zeros.proofs.ZeroBytes.{zero_pass, zero_stop, zero_last}
+use borrow.Author.Rules.{rules}
+use Rattle.zeros.proofs.zero_part.Goals as goal
+
+pub loop-rest-init : goal.loop-rest-init
+loop-rest-init c = refl
+
+pub returns-then-not-zero_block : goal.returns-then-not-zero_block
+returns-then-not-zero_block c = sym (c.loop-rest.invariant ∙ zero_stop c.loop-rest.rest.now 0 512 (sym c.zero_block.ensures ∙ c.if-not-zero_block.true))
+
+pub loop-rest-preserved : goal.loop-rest-preserved
+loop-rest-preserved c = let rest = c.loop-rest.rest.now in
+    c.loop-rest.invariant
+    ∙ zero_pass rest 0 512 (omega arith) (sym c.zero_block.ensures ∙ c.if-not-zero_block.false)
+    ∙ sym (zero_last rest 512)
+
+pub returns : goal.returns
+returns c = c.zero_rest.ensures ∙ sym c.loop-rest.invariant
