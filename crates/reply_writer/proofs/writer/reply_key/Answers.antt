@@ -1,0 +1,8 @@
+-- `reply_writer::writer::reply_key` meets its contract: a head, and the key. Assumes nothing.
+use Rattle.reply_writer.proofs.Frames.{key_steps}
+use borrow.Author.Rules.{rules}
+use Rattle.reply_writer.proofs.writer.reply_key.Goals as goal
+
+pub returns : goal.returns
+returns c = let a = c.args in
+    key_steps a.slot.now a.reply.now c.requires.1 c.put_head.ensures c.put_key.ensures c.requires.0
