@@ -10,4 +10,4 @@ wipe_slot-requires c = c.requires.inside
 
 pub returns : goal.returns
 returns c = let t = c.args.t.now in
-    c.wipe_slot.ensures ∙ emptied t c.args.i c.requires (below_256 t c.type_inv.t)
+    c.wipe_slot.ensures ∙ emptied t c.args.i c.requires (below_256 t (search rules))

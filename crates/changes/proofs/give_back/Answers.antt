@@ -15,5 +15,5 @@ pub returns : goal.returns
 returns c = let t = c.args.t.now in
     let i = c.args.i in
     let k = 4288 * i + 4288 - 4288 * i in
-    changed t i c.requires.0 (below_256 t c.type_inv.t) (λ s. taken (handle_of s) (enabled (recount c.args.count (right_of s))))
+    changed t i c.requires.0 (below_256 t (search rules)) (λ s. taken (handle_of s) (enabled (recount c.args.count (right_of s))))
     c.enable.new.s k (omega arith) c.enable.ensures

@@ -15,4 +15,4 @@ pub returns : goal.returns
 returns c = let t = c.args.t.now in
     let i = c.args.i in
     let k = 4288 * i + 4288 - 4288 * i in
-    changed t i c.requires.0 (below_256 t c.type_inv.t) (λ s. taken c.args.k (disabled (right_of s))) c.lend.new.s k (omega arith) c.lend.ensures
+    changed t i c.requires.0 (below_256 t (search rules)) (λ s. taken c.args.k (disabled (right_of s))) c.lend.new.s k (omega arith) c.lend.ensures

@@ -17,5 +17,5 @@ returns c = let a = c.args in
     let t = a.t.now in
     let i = a.i in
     let k = 4288 * i + 4288 - 4288 * i in
-    changed t i c.requires.0 (below_256 t c.type_inv.t) (λ _. taken a.h (enabled (right_from a.key a.count a.hashes a.n a.src.now a.at)))
+    changed t i c.requires.0 (below_256 t (search rules)) (λ _. taken a.h (enabled (right_from a.key a.count a.hashes a.n a.src.now a.at)))
     c.install.new.s k (omega arith) c.install.ensures

@@ -9,11 +9,8 @@ use lib.Seq.{take-length}
 use borrow.Author.Rules.{rules}
 use Rattle.profile.specs.Bytes.{Bytes, same, any, pieces}
 use Rattle.octets.proofs.Comparing.{any_more, any_found}
+use Rattle.hashes.proofs.has_one_of.Invariants.{has}
 use Rattle.hashes.proofs.has_one_of.Goals as goal
-
--- x is one of n hashes
-abbrev has : Bytes → ℕ → Bytes → Bool
-has bytes n x = any (same x) (pieces 20 n bytes)
 
 pub returns-then-has_hash : goal.returns-then-has_hash
 returns-then-has_hash c = let a = c.args in

@@ -11,6 +11,10 @@ use Rattle.profile.specs.Bytes.{Bytes, same, any, pieces}
 use Rattle.octets.proofs.Comparing.{any_more, any_found}
 use Rattle.hashes.proofs.has_one_of.Given as goal
 
+-- x is one of n hashes
+abbrev pub has : Bytes → ℕ → Bytes → Bool
+has bytes n x = any (same x) (pieces 20 n bytes)
+
 abbrev pub invariant-loop-k : goal.invariant-loop-k
 invariant-loop-k l = (l.k ≤ length l.q) × (any (has l.bytes l.count) (take l.k l.q) ≡ false)
 

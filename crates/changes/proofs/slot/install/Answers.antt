@@ -6,18 +6,11 @@ use Rattle.changes.proofs.SlotBytes.{given_stored}
 use borrow.Author.Rules.{rules}
 use Rattle.changes.proofs.slot.install.Goals as goal
 
--- what is known at the start: the lengths of the arrays
-key_16 : (c : tie.Start) → length c.args.key ≡ 16
-key_16 c = search rules
-
-handle_10 : (c : tie.Start) → length c.args.h ≡ 10
-handle_10 c = search rules
-
 pub returns : goal.returns
 returns c = let content = c.put_content in
     let terms = c.put_terms in
     let a = c.args in
     let label = c.put_label in
-    given_stored a.key a.count a.hashes a.n a.src.now a.at (key_16 start) c.requires.1 c.requires.2 c.requires.3
-    a.s.now label.new.s terms.new.s content.new.s a.h _ (below_256 a.s.now c.type_inv.s) (handle_10 start) c.requires.0
+    given_stored a.key a.count a.hashes a.n a.src.now a.at (search rules) c.requires.1 c.requires.2 c.requires.3
+    a.s.now label.new.s terms.new.s content.new.s a.h _ (below_256 a.s.now (search rules)) (search rules) c.requires.0
     c.kept_bit-kept.ensures.0 label.ensures terms.ensures content.ensures

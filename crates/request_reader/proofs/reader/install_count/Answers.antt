@@ -1,4 +1,6 @@
 -- `request_reader::reader::install_count` meets its contract: the bit and the number say a count, or not. Assumes nothing.
+use mathlib.Core.Bool.{not}
+use mathlib.Core.Path.{ap}
 use Rattle.request_reader.proofs.Choices.{no_count_said, count_said}
 use Rattle.request_reader.specs.Asking.{of_right}
 use borrow.Author.Rules.{rules}
@@ -6,8 +8,8 @@ use Rattle.request_reader.proofs.reader.install_count.Goals as goal
 
 pub returns-then-not-count_holds : goal.returns-then-not-count_holds
 unfolding of_right
-returns-then-not-count_holds c = rw (no_count_said c.kept_in-kept.ensures c.word_at-number.ensures c.count_holds.ensures c.if-not-count_holds.true) c.refuse.ensures
+returns-then-not-count_holds c = rw (no_count_said c.kept_in-kept.ensures c.word_at-number.ensures c.count_holds.ensures (ap not c.if-not-count_holds.true)) c.refuse.ensures
 
 pub returns : goal.returns
 unfolding of_right
-returns c = rw (count_said c.kept_in-kept.ensures c.word_at-number.ensures c.count_holds.ensures c.if-not-count_holds.false, ← c.kept_in-kept.ensures, ← c.word_at-number.ensures, ← c.count_with-count.ensures) c.with_right.ensures
+returns c = rw (count_said c.kept_in-kept.ensures c.word_at-number.ensures c.count_holds.ensures (ap not c.if-not-count_holds.false), ← c.kept_in-kept.ensures, ← c.word_at-number.ensures, ← c.count_with-count.ensures) c.with_right.ensures

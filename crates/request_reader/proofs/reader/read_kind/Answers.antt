@@ -42,4 +42,4 @@ returns-in-9 c = search (tests, c.in-9.is)
 
 pub returns-in_default : goal.returns-in_default
 unfolding of_kind
-returns-in_default c = rw (no_kind _ c.in_default.rest) c.refuse.ensures
+returns-in_default c = rw (no_kind c.args.kind (search rules)) c.refuse.ensures

@@ -13,4 +13,4 @@ pub returns-in-5 : goal.returns-in-5
 returns-in-5 c = rw c.in-5.is (ap (λ (x : ℕ). eqb x 0) c.request_rest-six.ensures)
 
 pub returns-in_default : goal.returns-in_default
-returns-in_default c = rw (no_count_lem _ c.in_default.rest) (ap (λ (x : ℕ). eqb x 0) c.flag_rest-seven.ensures)
+returns-in_default c = rw (no_count_lem c.args.kind (search rules)) (ap (λ (x : ℕ). eqb x 0) c.flag_rest-seven.ensures)

@@ -13,5 +13,5 @@ pub returns-then-slot_place-eq0 : goal.returns-then-slot_place-eq0
 returns-then-slot_place-eq0 c = sym (named_empty c.args.s.now c.args.h.now (omega (arith, c.slot_place.ensures, c.if-slot_place-eq0.true)))
 
 pub returns : goal.returns
-returns c = sym (c.if-not-same_from.false)
+returns c = sym c.if-not-same_from.false
     ∙ named_same c.args.s.now c.args.h.now _ c.requires.1 (λ e. omega (arith, c.slot_place.ensures, c.if-slot_place-eq0.false)) c.same_from.ensures

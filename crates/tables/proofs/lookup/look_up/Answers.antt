@@ -6,8 +6,8 @@ use Rattle.tables.proofs.lookup.look_up.Goals as goal
 
 pub returns-then-i-t : goal.returns-then-i-t
 returns-then-i-t c = let a = c.args in
-    sym (answers_absent a.t.now a.t2 _ c.first_under-i.ensures c.if-i-t.true)
+    sym (answers_absent a.t.now a.h _ c.first_under-i.ensures c.if-i-t.true)
 
 pub returns : goal.returns
 returns c = let a = c.args in
-    sym (answers_at a.t.now a.t2 _ c.first_under-i.ensures c.if-i-t.false _ _ c.slot_at.ensures.0 c.place_of.ensures)
+    sym (answers_at a.t.now a.h _ c.first_under-i.ensures c.if-i-t.false _ _ c.slot_at.ensures.0 c.place_of.ensures)

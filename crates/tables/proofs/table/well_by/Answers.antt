@@ -5,7 +5,7 @@ use borrow.Author.Rules.{rules}
 use Rattle.tables.proofs.table.well_by.Goals as goal
 
 pub returns-then-not-all_well : goal.returns-then-not-all_well
-returns-then-not-all_well c = not_all c.args.t.now c.args.old c.all_well.ensures (c.if-not-all_well.true)
+returns-then-not-all_well c = not_all c.args.t.now c.args.old c.all_well.ensures c.if-not-all_well.true
 
 pub returns : goal.returns
-returns c = all_then c.args.t.now c.args.old c.all_well.ensures (c.if-not-all_well.false) c.all_distinct.ensures
+returns c = all_then c.args.t.now c.args.old c.all_well.ensures c.if-not-all_well.false c.all_distinct.ensures
