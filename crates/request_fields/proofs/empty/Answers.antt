@@ -8,15 +8,11 @@ use lib.ListN.{length}
 use borrow.Author.Tests.{ne_eqb}
 use Rattle.profile.specs.Bytes.{Bytes}
 use Rattle.profile.specs.Device.{none?}
-use Rattle.request_fields.proofs.empty.Statement.{statement}
-use Rattle.request_fields.proofs.empty.Tie as tie
+use Rattle.request_fields.proofs.empty.Goals as goal
 
 no_length : (s : Bytes) → eqb (length s) 0 ≡ none? s
 no_length [] = refl
 no_length (x ∷ s) = ne_eqb (suc (length s)) 0 (λ e. omega arith)
 
-returns : tie.Need-returns
+pub returns : goal.returns
 returns c = no_length c.args.s.now
-
-pub empty-spec : {M : Type 1} → statement M
-empty-spec = tie.close (tie.spec returns)
