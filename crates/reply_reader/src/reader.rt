@@ -2,7 +2,7 @@
 // where one is given, its status is one of the profile's, and its body is of its kind's shape at success and empty at every other status.
 ghost use Rattle.std.specs.Prelude.{◌≡◌, ◌+◌, ◌≤◌, length};
 ghost use Rattle.profile.specs.Sizes.{key_size};
-ghost use Rattle.profile.specs.Frame.{kind_of, Retrieve, Rek, List', Info};
+ghost use Rattle.profile.specs.Frame.{kind_of, retrieve_kind, rek_kind, list_kind, info_kind};
 ghost use Rattle.reply_reader.specs.Told.{keyless, unread, told_empty, payload_from, right_in, key_in, list_in, info_in, told_of, told_success, told, Reads};
 
 use crate::answer::{Answer, Told};
@@ -58,7 +58,7 @@ fn right_in(f: &[u8]) -> Told
 }
 
 fn read_right(f: &[u8]) -> Told
-    ensures { result ≡ told_of Retrieve f.now }
+    ensures { result ≡ told_of retrieve_kind f.now }
 {
     if !crate::shape::is_right(f) {
         return malformed();
@@ -68,7 +68,7 @@ fn read_right(f: &[u8]) -> Told
 
 // Kind 4: the key.
 fn read_key(f: &[u8]) -> Told
-    ensures { result ≡ told_of Rek f.now }
+    ensures { result ≡ told_of rek_kind f.now }
 {
     if !crate::shape::is_key(f) {
         return malformed();
@@ -101,7 +101,7 @@ fn list_in(f: &[u8]) -> Told
 }
 
 fn read_list(f: &[u8]) -> Told
-    ensures { result ≡ told_of List' f.now }
+    ensures { result ≡ told_of list_kind f.now }
 {
     if !crate::shape::is_list(f) {
         return malformed();
@@ -122,7 +122,7 @@ fn info_in(f: &[u8]) -> Told
 }
 
 fn read_info(f: &[u8]) -> Told
-    ensures { result ≡ told_of Info f.now }
+    ensures { result ≡ told_of info_kind f.now }
 {
     if !crate::shape::is_info(f) {
         return malformed();

@@ -2,7 +2,7 @@
 ghost use Rattle.std.specs.Prelude.{◌≡◌, ◌&&◌, ◌||◌, ◌+◌, ◌≤◌, eqb, length};
 ghost use Rattle.profile.specs.Bytes.{word};
 ghost use Rattle.profile.specs.Slot.{count_holds};
-ghost use Rattle.profile.specs.Frame.{kind_of, is_status, is_frame, version_holds, kept_in, body, Retrieve, Rek, List', Info};
+ghost use Rattle.profile.specs.Frame.{kind_of, is_status, is_frame, version_holds, kept_in, body, retrieve_kind, rek_kind, list_kind, info_kind};
 ghost use Rattle.profile.specs.Device.{none?, gives_count, shaped};
 ghost use Rattle.reply_reader.specs.Told.{count_from};
 
@@ -92,7 +92,7 @@ pub fn count_at(f: &[u8], at: usize) -> Count
 
 // Kind 3: a count, the four bits after the hash count zero, at most 8 hashes, and a payload of 1 to 4,096 bytes.
 pub fn is_right(f: &[u8]) -> bool
-    ensures { result ≡ shaped Retrieve f.now }
+    ensures { result ≡ shaped retrieve_kind f.now }
 {
     if f.len() < 24 {
         return false;
@@ -107,14 +107,14 @@ pub fn is_right(f: &[u8]) -> bool
 
 // Kind 4: a key.
 pub fn is_key(f: &[u8]) -> bool
-    ensures { result ≡ shaped Rek f.now }
+    ensures { result ≡ shaped rek_kind f.now }
 {
     f.len() == KEY_REPLY
 }
 
 // Kind 8: the seven bits after "more" are zero, and 0 to 15 whole handles follow.
 pub fn is_list(f: &[u8]) -> bool
-    ensures { result ≡ shaped List' f.now }
+    ensures { result ≡ shaped list_kind f.now }
 {
     if f.len() < 5 {
         return false;
@@ -126,7 +126,7 @@ pub fn is_list(f: &[u8]) -> bool
 
 // Kind 9: a count, and a payload of 1 to 4,096 bytes.
 pub fn is_info(f: &[u8]) -> bool
-    ensures { result ≡ shaped Info f.now }
+    ensures { result ≡ shaped info_kind f.now }
 {
     if f.len() < 6 {
         return false;

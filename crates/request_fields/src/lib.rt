@@ -13,7 +13,7 @@ use profile::sizes::{HANDLE_BYTES, HASH_BYTES, KEY_BYTES, MOST_HASHES, MOST_PAYL
 
 // All fields but the hashes and the payload, which are lent and not copied. `room` is the length of kind 1. A count is given by its
 // number and its bit, `kept`: not every two of these say a count, and the tests find those that do not.
-#[derive(Drop)]
+#[derive(Clone, Copy)]
 pub struct Plain {
     pub handle: [u8; HANDLE_BYTES],
     pub new: [u8; HANDLE_BYTES],

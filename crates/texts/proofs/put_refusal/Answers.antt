@@ -1,0 +1,12 @@
+-- `texts::put_refusal` meets its contract: a line of a word and the number. Assumes nothing.
+use native.Mathlib.Omega.{arith}
+use Rattle.texts.proofs.Digits.{number_few}
+use Rattle.texts.proofs.Writing.{is_refusal}
+use borrow.Author.Rules.{rules}
+use Rattle.texts.proofs.put_refusal.Goals as goal
+
+pub put_numbered-requires : goal.put_numbered-requires
+put_numbered-requires c = (omega arith, omega (arith, number_few 2 _ c.requires.0))
+
+pub returns : goal.returns
+returns c = rw (is_refusal c.args.n) at c.put_numbered.ensures
