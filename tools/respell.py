@@ -62,7 +62,7 @@ def declared():
             continue
         for line in text_of(p).split("\n"):
             m = HEAD.match(line)
-            if line.lstrip().startswith("--") or not m or len(m[1]) > 4:
+            if line.lstrip().startswith("--") or not m or len(m[1]) > 12:
                 continue
             ns = m[2].split()
             if not any(n in WORDS for n in ns):

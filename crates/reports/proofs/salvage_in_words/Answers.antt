@@ -7,25 +7,25 @@ use borrow.Author.Rules.{rules}
 use Rattle.reports.proofs.salvage_in_words.Goals as goal
 
 pub put_refusal-refused-requires : goal.put_refusal-refused-requires
-put_refusal-refused-requires c = let o = over_15 c.args.table.now (replicate 15 0) c.salvage-number.result c.salvage-number.new.table c.salvage-number.new.report.0 c.salvage-number.ensures (omega arith) c.if-number-gt-MOST_SLOTS.true in
+put_refusal-refused-requires c = let o = over_15 c.args.table.now (replicate 15 0) c.salvage-number.result c.salvage-number.new.table c.salvage-number.new.report c.salvage-number.ensures (omega arith) c.if-number-gt-MOST_SLOTS.true in
     (omega (arith, o.number_is), omega arith)
 
 pub returns-then-number-gt-MOST_SLOTS : goal.returns-then-number-gt-MOST_SLOTS
-returns-then-number-gt-MOST_SLOTS c = prints_refusal c.args.table.now (replicate 15 0) c.salvage-number.result c.salvage-number.new.table c.salvage-number.new.report.0 c.salvage-number.ensures (omega arith) c.if-number-gt-MOST_SLOTS.true
+returns-then-number-gt-MOST_SLOTS c = prints_refusal c.args.table.now (replicate 15 0) c.salvage-number.result c.salvage-number.new.table c.salvage-number.new.report c.salvage-number.ensures (omega arith) c.if-number-gt-MOST_SLOTS.true
     c.put_refusal-refused.ensures
 
 pub put_lines-next-requires : goal.put_lines-next-requires
 put_lines-next-requires c = let o =
-    up_to_15 c.args.table.now (replicate 15 0) c.salvage-number.result c.salvage-number.new.table c.salvage-number.new.report.0 c.salvage-number.ensures (omega arith) c.if-number-gt-MOST_SLOTS.false in
+    up_to_15 c.args.table.now (replicate 15 0) c.salvage-number.result c.salvage-number.new.table c.salvage-number.new.report c.salvage-number.ensures (omega arith) c.if-number-gt-MOST_SLOTS.false in
     let few = at_most_15 c.args.table.now o.is_whole in
-    (omega (arith, few, c.salvage-number.auto.0), omega (arith, few, c.salvage-number.auto.0, c.salvage-number.auto.1.0), omega arith)
+    (omega (arith, few, c.salvage-number.auto.table), omega (arith, few, c.salvage-number.auto.table, c.salvage-number.auto.report), omega arith)
 
 pub put_cleared-end-requires : goal.put_cleared-end-requires
 put_cleared-end-requires c = let o =
-    up_to_15 c.args.table.now (replicate 15 0) c.salvage-number.result c.salvage-number.new.table c.salvage-number.new.report.0 c.salvage-number.ensures (omega arith) c.if-number-gt-MOST_SLOTS.false in
+    up_to_15 c.args.table.now (replicate 15 0) c.salvage-number.result c.salvage-number.new.table c.salvage-number.new.report c.salvage-number.ensures (omega arith) c.if-number-gt-MOST_SLOTS.false in
     let few = at_most_15 c.args.table.now o.is_whole in
-    (omega (arith, c.if-number-gt-MOST_SLOTS.false), omega (arith, few, c.salvage-number.auto.0, c.put_lines-next.ensures.1, c.put_lines-next.auto.0))
+    (omega (arith, c.if-number-gt-MOST_SLOTS.false), omega (arith, few, c.salvage-number.auto.table, c.put_lines-next.ensures.1, c.put_lines-next.auto.out))
 
 pub returns : goal.returns
-returns c = prints_lines c.args.table.now (replicate 15 0) c.salvage-number.result c.salvage-number.new.table c.salvage-number.new.report.0 c.salvage-number.ensures (omega arith) c.if-number-gt-MOST_SLOTS.false
-    c.salvage-number.auto.0 c.put_lines-next.ensures.0 c.put_cleared-end.ensures
+returns c = prints_lines c.args.table.now (replicate 15 0) c.salvage-number.result c.salvage-number.new.table c.salvage-number.new.report c.salvage-number.ensures (omega arith) c.if-number-gt-MOST_SLOTS.false
+    c.salvage-number.auto.table c.put_lines-next.ensures.0 c.put_cleared-end.ensures

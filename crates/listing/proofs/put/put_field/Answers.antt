@@ -9,7 +9,7 @@ put_word-next-requires c = omega (arith, c.requires.1, field_length c.args.n)
 
 pub put_number-requires : goal.put_number-requires
 put_number-requires c = let w = c.put_word-next in
-    (c.requires.0, omega (arith, c.requires.1, field_length c.args.n, w.ensures.ends, w.auto.0))
+    (c.requires.0, omega (arith, c.requires.1, field_length c.args.n, w.ensures.ends, w.auto.out))
 
 pub returns : goal.returns
 returns c = let w = c.put_word-next in

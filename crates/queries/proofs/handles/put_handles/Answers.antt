@@ -8,6 +8,7 @@ use lib.Seq.{length-take-le}
 use borrow.Author.Rules.{rules}
 use Rattle.profile.specs.Sizes.{most_hashes}
 use Rattle.queries.proofs.Growth.{few_in_slot, Passed, passed_none, passed_all, room_next, pass-other, pass-listed}
+use Rattle.queries.proofs.handles.put_handles.Goals.{then-is_listed, else-is_listed}
 use Rattle.queries.proofs.handles.put_handles.Goals as goal
 
 pub loop-i-init : goal.loop-i-init
@@ -25,18 +26,19 @@ pub put_next-requires : goal.put_next-requires
 put_next-requires c = (room_next _ _ _ _ c.requires.0 c.loop-i.i c.loop-i.found c.loop-i.reply c.loop-i-test.true c.loop-i.invariant.1, search rules)
 
 pub loop-i-preserved : goal.loop-i-preserved
-loop-i-preserved c = let v = c.loop-i in
+loop-i-preserved c =
+    let v = c.loop-i in
     let s = c.slot_at-slot in
     let listed = c.is_listed.ensures in
     let passed = c.loop-i-test.true in (
       omega arith,
-      ⊎_elim
-          (λ w. rw (w.5, w.6)
-          (pass-listed _ _ _ _ c.requires.0 v.i v.found v.reply passed v.invariant.1 s.result.now s.ensures.0 s.ensures.1
-          (rw w.0.taken at listed) w.2.last.0 w.2.kept.0 w.2.ensures))
-          (λ w. rw (w.1, w.2)
-          (pass-other _ _ _ _ c.requires.0 v.i v.found v.reply passed v.invariant.1 s.result.now s.ensures.0 (rw w.0.left at listed)))
-          c.if-is_listed.branch,
+      elim c.if-is_listed.branch [
+        then-is_listed w ↦ rw (w.found-is, w.reply-is)
+            (pass_listed _ _ _ _ c.requires.0 v.i v.found v.reply passed v.invariant.1 s.result.now s.ensures.0 s.ensures.1
+            (rw w.if-is_listed.true at listed) w.put_next.new.reply w.put_next.auto.reply w.put_next.ensures)
+      | else-is_listed w ↦ rw (w.found-is, w.reply-is)
+            (pass_other _ _ _ _ c.requires.0 v.i v.found v.reply passed v.invariant.1 s.result.now s.ensures.0 (rw w.if-is_listed.false at listed))
+      ],
     )
 
 pub shape_of-reply : goal.shape_of-reply
