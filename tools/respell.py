@@ -23,7 +23,7 @@ WORDS = {"use", "let", "in", "where", "module", "record", "if", "then", "else"}
 USE = re.compile(r"use\s+(Rattle\.[\w.']+|[\w.']+)\.\{([^}]*)\}")
 # Where a field or a constructor would have a definition's name, or a theorem's.
 SPECIAL = {"for-use": "usable", "no-limit": "unlimited", "same-tally": "tallies_agree"}
-# Names that the first script gave, which would now have another definition's name: in these files alone.
+# Names that port.py gave, which would now have another definition's name: in these files alone, while they have that one's old name.
 BEFORE = {
     "crates/changes/proofs/Images.antt": {"room_fields": "room_fields_lem"},
     "crates/profile/proofs/Unlisted.antt": {"in_use": "in_use_lem"},
@@ -126,7 +126,8 @@ def turn(path, to):
     mine = dict(to)
     for n in library_names(text):
         mine.pop(n, None)
-    mine.update(BEFORE.get(path, {}))
+    had = {to[w]: 1 for w in TOKEN.findall(without_comments(text)) if w in to}
+    mine.update({n: new for n, new in BEFORE.get(path, {}).items() if n in had})
     bare = {}
     if path.endswith(".antt"):
         for page, names in BY_PAGE.items():

@@ -21,20 +21,20 @@ module _ (table : Bytes) (tally : Tally) (start : ℕ) (buffer : Bytes) where
     tests_102 e = rw (ltb_false (length buffer) 4279 long, e) refl
 
     module _ (whole : whole_slots table ≡ true) where
-      pub tests-105 : slot_count table ≤ start → 105 ≡ tests_of table tally start buffer
+      pub tests_105 : slot_count table ≤ start → 105 ≡ tests_of table tally start buffer
       unfolding tests_of
-      tests-105 h = rw (ltb_false (length buffer) 4279 long, whole, leb_true (slot_count table) start h) refl
+      tests_105 h = rw (ltb_false (length buffer) 4279 long, whole, leb_true (slot_count table) start h) refl
 
       module _ (inside : start < slot_count table) where
-        pub tests-103 : well_table table ≡ false → 103 ≡ tests_of table tally start buffer
+        pub tests_103 : well_table table ≡ false → 103 ≡ tests_of table tally start buffer
         unfolding tests_of
-        tests-103 e = rw (ltb_false (length buffer) 4279 long, whole, leb_false (slot_count table) start inside, e) refl
+        tests_103 e = rw (ltb_false (length buffer) 4279 long, whole, leb_false (slot_count table) start inside, e) refl
 
         module _ (well : well_table table ≡ true) where
-          pub tests-106 : same_tally tally (tally_in table) ≡ false → 106 ≡ tests_of table tally start buffer
+          pub tests_106 : same_tally tally (tally_in table) ≡ false → 106 ≡ tests_of table tally start buffer
           unfolding tests_of
-          tests-106 e = rw (ltb_false (length buffer) 4279 long, whole, leb_false (slot_count table) start inside, well, e) refl
+          tests_106 e = rw (ltb_false (length buffer) 4279 long, whole, leb_false (slot_count table) start inside, well, e) refl
 
-          pub tests-0 : same_tally tally (tally_in table) ≡ true → 0 ≡ tests_of table tally start buffer
+          pub tests_0 : same_tally tally (tally_in table) ≡ true → 0 ≡ tests_of table tally start buffer
           unfolding tests_of
-          tests-0 e = rw (ltb_false (length buffer) 4279 long, whole, leb_false (slot_count table) start inside, well, e) refl
+          tests_0 e = rw (ltb_false (length buffer) 4279 long, whole, leb_false (slot_count table) start inside, well, e) refl

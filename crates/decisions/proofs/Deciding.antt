@@ -133,14 +133,14 @@ module _ (T B h : Bytes) (bytes : Bytes256 T) (r : Ready T B) (i : ℕ) where
       not_empty : place_of s ≡ 0 → ⊥
       not_empty z = empty_taken h (entry_of p s) (sym (unpack_empty s z) ∙ a.unpacked)
 
-      s-bytes : Bytes256 s
-      s-bytes = bytes_take slot_size (drop (slot_size * i) T) (bytes_drop (slot_size * i) T bytes)
+      s_bytes : Bytes256 s
+      s_bytes = bytes_take slot_size (drop (slot_size * i) T) (bytes_drop (slot_size * i) T bytes)
 
       number : (p : Place) → found_at (find h (slots_of T)) ≡ At i p → place_of s ≡ place_number p
       number Empty l = absurd (none_empty T h i l)
-      number Reserved l = taken_place s s-bytes h (entry_of Reserved s) (record_at T h i Reserved l).unpacked
-      number Enabled l = taken_place s s-bytes h (entry_of Enabled s) (record_at T h i Enabled l).unpacked
-      number Disabled l = taken_place s s-bytes h (entry_of Disabled s) (record_at T h i Disabled l).unpacked
+      number Reserved l = taken_place s s_bytes h (entry_of Reserved s) (record_at T h i Reserved l).unpacked
+      number Enabled l = taken_place s s_bytes h (entry_of Enabled s) (record_at T h i Enabled l).unpacked
+      number Disabled l = taken_place s s_bytes h (entry_of Disabled s) (record_at T h i Disabled l).unpacked
 
 -- ---- what changes where the slot of such a record becomes x, at another place
 right_length : {s : Bytes} → RecordFits s → length (right_of s).payload ≡ length_of s

@@ -117,22 +117,22 @@ module _ (t b : Bytes) (at : ℕ) (fit : Listable t) (room : at + 25 * most_slot
     room_next = omega (arith, p.short, wrote_length p.wrote, index_few)
 
     module _ (s : Bytes) (e : s ≡ part (slot_size * i) slot_size t) where
-      well-s : well_slot s ≡ true
-      well-s = rw e (slot_well t i fit.well h)
+      well_s : well_slot s ≡ true
+      well_s = rw e (slot_well t i fit.well h)
 
-      few-next : hash_count_of s < 10
-      few-next = omega (arith, few_hashes s well-s)
+      few_next : hash_count_of s < 10
+      few_next = omega (arith, few_hashes s well_s)
 
-      short-next : length_of s < 10000
-      short-next = omega (arith, length_most_4096 s well-s)
+      short_next : length_of s < 10000
+      short_next = omega (arith, length_most_4096 s well_s)
 
       -- what the next line asks, and what holds after it
-      pub line-asks : (i < most_slots) × (hash_count_of s < 10) × (length_of s < 10000) × (next + 25 ≤ length d)
-      line-asks = (index_few, few-next, short-next, room_next)
+      pub line_asks : (i < most_slots) × (hash_count_of s < 10) × (length_of s < 10000) × (next + 25 ≤ length d)
+      line_asks = (index_few, few_next, short_next, room_next)
 
       pub pass_next : (d' : Bytes) (next' : ℕ) → Wrote (line_of i s) next d d' next' → Passed t b at (i + 1) d' next'
       pass_next d' next' w =
           record {
             wrote = rw (lines_next t i h, ← e) (wrote_then p.wrote w);
-            short = omega (arith, p.short, w.ends, line_most i s (omega (arith, index_few)) few-next short-next);
+            short = omega (arith, p.short, w.ends, line_most i s (omega (arith, index_few)) few_next short_next);
           }

@@ -117,10 +117,10 @@ module _ (start : ℕ) (t : List Slot) (inside : start < length t) where
       (λ f. let h = ltb_lt low start f in
       below h (sym (at_take start t low h) ∙ lowest_there (take start t) (omega (arith, h, first_length))) past
       (λ j a. none_low j a (omega (arith, a, h))))
-      (λ f. nowhere refl (λ j p. if-start past (ltb_over low start f) j p)))
+      (λ f. nowhere refl (λ j p. if_start past (ltb_over low start f) j p)))
     where
-      if-start : ((j : ℕ) → start ≤ j → Empty t j → ⊥) → start ≤ low → (j : ℕ) → Empty t j → ⊥
-      if-start past full j p = go (ltb j start) refl
+      if_start : ((j : ℕ) → start ≤ j → Empty t j → ⊥) → start ≤ low → (j : ℕ) → Empty t j → ⊥
+      if_start past full j p = go (ltb j start) refl
         where
           go : (b : Bool) → ltb j start ≡ b → ⊥
           go true e = none_low j (omega (arith, full, ltb_lt j start e)) (ltb_lt j start e) p
@@ -172,17 +172,17 @@ module _ (start : ℕ) (t : List Slot) (inside : start < length t) where
 
   -- no other slot meets the law: of two that do, neither is reached before the other
   one_first : (i j : ℕ) → FirstEmpty start t i → FirstEmpty start t j → i ≡ j
-  one_first i j a b = a.reached ∙ ap (onward n start) steps-same ∙ sym b.reached
+  one_first i j a b = a.reached ∙ ap (onward n start) steps_same ∙ sym b.reached
     where
-      not-sooner : (x y : ℕ) (c : FirstEmpty start t x) (d : FirstEmpty start t y) → c.steps < d.steps → ⊥
-      not-sooner x y c d h = d.none_before c.steps h (ap (get_elem? t) (sym c.reached) ∙ c.is_empty)
+      not_sooner : (x y : ℕ) (c : FirstEmpty start t x) (d : FirstEmpty start t y) → c.steps < d.steps → ⊥
+      not_sooner x y c d h = d.none_before c.steps h (ap (get_elem? t) (sym c.reached) ∙ c.is_empty)
 
-      steps-same : a.steps ≡ b.steps
-      steps-same = go (ltb a.steps b.steps) (ltb b.steps a.steps) refl refl
+      steps_same : a.steps ≡ b.steps
+      steps_same = go (ltb a.steps b.steps) (ltb b.steps a.steps) refl refl
         where
           go : (x y : Bool) → ltb a.steps b.steps ≡ x → ltb b.steps a.steps ≡ y → a.steps ≡ b.steps
-          go true y p q = absurd (not-sooner i j a b (ltb_lt a.steps b.steps p))
-          go false true p q = absurd (not-sooner j i b a (ltb_lt b.steps a.steps q))
+          go true y p q = absurd (not_sooner i j a b (ltb_lt a.steps b.steps p))
+          go false true p q = absurd (not_sooner j i b a (ltb_lt b.steps a.steps q))
           go false false p q = omega (arith, ltb_over a.steps b.steps p, ltb_over b.steps a.steps q)
 
   pub first_only : (i : ℕ) → FirstEmpty start t i → i ≡ first_empty_from start t

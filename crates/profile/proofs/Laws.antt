@@ -20,7 +20,7 @@ use Rattle.profile.specs.Laws.{Apart, Refuses, FoundIs, Full, SetsFirst}
 use Rattle.profile.proofs.Logic.{both, and_parts, not_true, eqb_true, same_refl, split}
 use Rattle.profile.proofs.Frames.{coded}
 use Rattle.profile.proofs.FirstEmpty.{not_there, empty_not_taken, first_empty, first_only, none_empty}
-use Rattle.profile.proofs.Numbers.{agent-103, agent_105, by_agent}
+use Rattle.profile.proofs.Numbers.{agent_103, agent_105, by_agent}
 use Rattle.profile.proofs.WellFormed.{table_distinct}
 use Rattle.profile.proofs.Steps.{acts}
 
@@ -95,13 +95,13 @@ apart_distinct (s ∷ t) a = go s (apart_distinct t (λ i j h e f p q. suc_inj (
   where
     go : (s : Slot) → distinct t ≡ true → Apart (s ∷ t) → distinct (s ∷ t) ≡ true
     go empty d a = d
-    go (taken k x) d a = both (is-new (in_use k t) refl) d
+    go (taken k x) d a = both (is_new (in_use k t) refl) d
       where
-        is-new : (b : Bool) → in_use k t ≡ b → not b ≡ true
-        is-new true u =
+        is_new : (b : Bool) → in_use k t ≡ b → not b ≡ true
+        is_new true u =
             let w = in_use_where k t u in
             absurd (omega (arith, a 0 (suc w.0) k x w.1 refl w.2))
-        is-new false u = refl
+        is_new false u = refl
 
 -- ---- refusals
 module _ (table : Bytes) (c : Call) where
@@ -125,7 +125,7 @@ module _ (table : Bytes) (c : Call) where
   outside_105 = agent_105 table c
 
   pub twice_103 : reply_room ≤ length c.buffer → whole_slots table ≡ true → c.start < slot_count table → (Apart (slots_of table) → ⊥) → agent table c ≡ refuse 103 table c
-  twice_103 long whole inside twice = agent-103 table c long whole inside (ill (well_table table) refl)
+  twice_103 long whole inside twice = agent_103 table c long whole inside (ill (well_table table) refl)
     where
       ill : (b : Bool) → well_table table ≡ b → well_table table ≡ false
       ill true well = absurd (twice (apart (slots_of table) (table_distinct table whole well)))

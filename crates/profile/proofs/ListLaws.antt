@@ -217,10 +217,10 @@ module _ (limit : ℕ) (hs : List Bytes) (g : Given) (w : WithinLimit limit hs g
   within_only : g ≡ first_of limit hs
   within_only =
       w.gives
-      ∙ rw (more_is, as_many) (ap {B = Given} (λ (x : List Bytes). handles (ltb (fitting limit (length hs)) (length hs)) x) first-is)
+      ∙ rw (more_is, as_many) (ap {B = Given} (λ (x : List Bytes). handles (ltb (fitting limit (length hs)) (length hs)) x) first_is)
     where
-      first-is : w.first ≡ take (fitting limit (length hs)) hs
-      first-is = rw (← as_many) (sym (take_at w.first w.left_off (length w.first) refl) ∙ ap (take (length w.first)) (sym w.parts))
+      first_is : w.first ≡ take (fitting limit (length hs)) hs
+      first_is = rw (← as_many) (sym (take_at w.first w.left_off (length w.first) refl) ∙ ap (take (length w.first)) (sym w.parts))
 
 -- no other answer meets the laws
 pub lists_only : (free : ℕ) (t : List Slot) (limit : ℕ) (q : List Bytes) (g : Given) → ListsExactly limit q t g → act free t (list limit q) ≡ done g t

@@ -22,7 +22,7 @@ use Rattle.profile.proofs.Logic.{if_both, eqb_true}
 use Rattle.profile.proofs.FirstEmpty.{not_there}
 use Rattle.profile.proofs.Tables.{slots_table}
 use Rattle.profile.proofs.TallyLaws.{tally_map, same_tally_true}
-use Rattle.profile.proofs.Numbers.{agent-106, by_agent}
+use Rattle.profile.proofs.Numbers.{agent_106, by_agent}
 use Rattle.profile.proofs.Turning.{turns, turn_refuses}
 use Rattle.profile.proofs.Fitting.{blank_fits}
 use Rattle.profile.proofs.Sound.{zeros_table}
@@ -31,7 +31,7 @@ use Rattle.profile.proofs.Sound.{zeros_table}
 module _ (table : Bytes) (c : Call) where
   pub differs_106 : reply_room ≤ length c.buffer → whole_slots table ≡ true → c.start < slot_count table → well_table table ≡ true
       → (c.tally ≡ tally_in table → ⊥) → agent table c ≡ refuse 106 table c
-  differs_106 = agent-106 table c
+  differs_106 = agent_106 table c
 
   pub tally_afresh : eqb (agent table c).number 0 ≡ true → (agent table c).tally ≡ tally_in (agent table c).table
   tally_afresh =

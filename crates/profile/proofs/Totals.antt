@@ -93,12 +93,12 @@ module _ (l : Ledger) (t : List Slot) (a : Agrees l t) where
   told_changes : (r : Read) (o : Outcome) → changes_of (returns_told l (exchange r o)) ≡ change (return_in t (exchange r o))
   told_changes (asks q) o = go (eqb o.number 0)
     where
-      told-one : (b : Bool) → change (if b then return_told l q else no_return) +ℤ pos 0 ≡ change (if b then return_by t q else no_return)
-      told-one true = +ℤ_idr (change (return_told l q)) ∙ ap change (sym (by_told q))
-      told-one false = refl
+      told_one : (b : Bool) → change (if b then return_told l q else no_return) +ℤ pos 0 ≡ change (if b then return_by t q else no_return)
+      told_one true = +ℤ_idr (change (return_told l q)) ∙ ap change (sym (by_told q))
+      told_one false = refl
 
       go : (b : Bool) → changes_of (returns_told l (if b then record { request = q; status = status_in o.reply } ∷ [] else [])) ≡ change (return_in t (if b then record { request = q; status = status_in o.reply } ∷ [] else []))
-      go true = told-one (eqb (status_in o.reply) 0)
+      go true = told_one (eqb (status_in o.reply) 0)
       go false = refl
   told_changes (refused r) o = refl
   told_changes no_frame o = refl
@@ -106,12 +106,12 @@ module _ (l : Ledger) (t : List Slot) (a : Agrees l t) where
   told_counted : (r : Read) (o : Outcome) → counted_in (returns_told l (exchange r o)) ≡ counted (return_in t (exchange r o))
   told_counted (asks q) o = go (eqb o.number 0)
     where
-      told-one : (b : Bool) → counted (if b then return_told l q else no_return) + 0 ≡ counted (if b then return_by t q else no_return)
-      told-one true = omega (arith, ap counted (by_told q))
-      told-one false = refl
+      told_one : (b : Bool) → counted (if b then return_told l q else no_return) + 0 ≡ counted (if b then return_by t q else no_return)
+      told_one true = omega (arith, ap counted (by_told q))
+      told_one false = refl
 
       go : (b : Bool) → counted_in (returns_told l (if b then record { request = q; status = status_in o.reply } ∷ [] else [])) ≡ counted (return_in t (if b then record { request = q; status = status_in o.reply } ∷ [] else []))
-      go true = told-one (eqb (status_in o.reply) 0)
+      go true = told_one (eqb (status_in o.reply) 0)
       go false = refl
   told_counted (refused r) o = refl
   told_counted no_frame o = refl

@@ -89,10 +89,10 @@ module _ (s : Bytes) (b : Before s) where
       absurd (n (omega (arith, zero_byte s 27 z, zero_byte s 28 z)))
   has_right n (suc zero) at =
       let v : WellReserved s = well_reserved_lem s (rw at at (well_rest_lem s b.rest).placed) in
-      absurd (n (omega (arith, key-byte 16 (omega arith) v.no_key, key-byte 17 (omega arith) v.no_key)))
+      absurd (n (omega (arith, key_byte 16 (omega arith) v.no_key, key_byte 17 (omega arith) v.no_key)))
     where
-      key-byte : (i : ℕ) → i < 18 → all_zero (part 11 18 s) ≡ true → get_or s (11 + i) 0 ≡ 0
-      key-byte i h z = sym (get_or-drop 11 s i 0) ∙ sym (get_or-take 18 (drop 11 s) i 0 h) ∙ zero_byte (part 11 18 s) i z
+      key_byte : (i : ℕ) → i < 18 → all_zero (part 11 18 s) ≡ true → get_or s (11 + i) 0 ≡ 0
+      key_byte i h z = sym (get_or-drop 11 s i 0) ∙ sym (get_or-take 18 (drop 11 s) i 0 h) ∙ zero_byte (part 11 18 s) i z
   has_right n (suc (suc q)) at = (q, at)
 
   -- with a count it gets the bit

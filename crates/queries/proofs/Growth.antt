@@ -64,16 +64,16 @@ module _ (t b : Bytes) (q : List Bytes) (most : ℕ) where
 
     module _ (s : Bytes) (e : s ≡ part (slot_size * i) slot_size t) where
       -- a slot that the list passes over
-      pub pass-other : listed_slot q (unpack s) ≡ [] → Passed t b q most (i + 1) found d
-      pass-other none =
+      pub pass_other : listed_slot q (unpack s) ≡ [] → Passed t b q most (i + 1) found d
+      pass_other none =
           let same_list : listed q (take (i + 1) (slots_of t)) ≡ listed q (take i (slots_of t)) = listed_next t q i h s e ∙ rw none (append-nil (listed q (take i (slots_of t)))) in
           record { few = omega (arith, p.few); sized = p.sized; counted = rw same_list p.counted; held = rw same_list p.held }
 
       -- a slot whose handle is in the list
-      pub pass-listed : length s ≡ slot_size → listed_slot q (unpack s) ≡ handle_of s ∷ []
+      pub pass_listed : length s ≡ slot_size → listed_slot q (unpack s) ≡ handle_of s ∷ []
           → (d' : Bytes) → length d' ≡ length d → d' ≡ (if ltb found most then over_at (5 + handle_size * found) (handle_of s) d else d)
           → Passed t b q most (i + 1) (found + 1) d'
-      pass-listed len-s one d' len-d put =
+      pass_listed len-s one d' len-d put =
           let hs : List Bytes = listed q (take i (slots_of t)) in
           let next : listed q (take (i + 1) (slots_of t)) ≡ hs ++ (handle_of s ∷ []) = listed_next t q i h s e ∙ rw one in
           let each : Each handle_size hs = each_passed t q ready.whole ready.well i in

@@ -21,16 +21,16 @@ module _ (table : Bytes) (bytes : Bytes256 table) (whole : whole_slots table ≡
 
   pub info_keeps : (h : Bytes) → table_after table (answer_to table (info h)) ≡ table
   unfolding act
-  info_keeps h = by-found (find h (slots_of table))
+  info_keeps h = by_found (find h (slots_of table))
     where
-      by-entry : (i : ℕ) (e : Entry) → table_after table (info_at (slots_of table) i e) ≡ table
-      by-entry i (reserved n) = refl
-      by-entry i (enabled r) = table_slots table bytes whole well
-      by-entry i (disabled r) = refl
+      by_entry : (i : ℕ) (e : Entry) → table_after table (info_at (slots_of table) i e) ≡ table
+      by_entry i (reserved n) = refl
+      by_entry i (enabled r) = table_slots table bytes whole well
+      by_entry i (disabled r) = refl
 
-      by-found : (f : Found) → table_after table (when_found f (info_at (slots_of table))) ≡ table
-      by-found absent = refl
-      by-found (one i e) = by-entry i e
+      by_found : (f : Found) → table_after table (when_found f (info_at (slots_of table))) ≡ table
+      by_found absent = refl
+      by_found (one i e) = by_entry i e
 
 module _ (table : Bytes) where
   pub list_same : (limit : ℕ) (q : List Bytes) → Same ≡ change_by (slots_of table) (answer_to table (list limit q))
@@ -39,13 +39,13 @@ module _ (table : Bytes) where
 
   pub info_same : (h : Bytes) → Same ≡ change_by (slots_of table) (answer_to table (info h))
   unfolding act
-  info_same h = by-found (find h (slots_of table))
+  info_same h = by_found (find h (slots_of table))
     where
-      by-entry : (i : ℕ) (e : Entry) → Same ≡ change_by (slots_of table) (info_at (slots_of table) i e)
-      by-entry i (reserved n) = sym (none_moved (slots_of table))
-      by-entry i (enabled r) = sym (none_moved (slots_of table))
-      by-entry i (disabled r) = sym (none_moved (slots_of table))
+      by_entry : (i : ℕ) (e : Entry) → Same ≡ change_by (slots_of table) (info_at (slots_of table) i e)
+      by_entry i (reserved n) = sym (none_moved (slots_of table))
+      by_entry i (enabled r) = sym (none_moved (slots_of table))
+      by_entry i (disabled r) = sym (none_moved (slots_of table))
 
-      by-found : (f : Found) → Same ≡ change_by (slots_of table) (when_found f (info_at (slots_of table)))
-      by-found absent = sym (none_moved (slots_of table))
-      by-found (one i e) = by-entry i e
+      by_found : (f : Found) → Same ≡ change_by (slots_of table) (when_found f (info_at (slots_of table)))
+      by_found absent = sym (none_moved (slots_of table))
+      by_found (one i e) = by_entry i e

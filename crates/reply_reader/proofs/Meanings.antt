@@ -37,7 +37,7 @@ module _ (f : Bytes) where
   -- ---- kind by kind
   right_given : the_right (record { key = part 4 key_size f; count = count_from 20 f; hashes = pieces hash_size (byte 22 f / 16) (drop 23 f); payload = part (payload_from f) (length f - payload_from f) f })
       ≡ given retrieve_kind f
-  right_given = λ i. the_right (record { key = part 4 key_size f; count = count_is i; hashes = hashes_are i; payload = payload-is i })
+  right_given = λ i. the_right (record { key = part 4 key_size f; count = count_is i; hashes = hashes_are i; payload = payload_is i })
     where
       count_is : count_from 20 f ≡ count_given key_size f
       count_is = ap (count_with (kept_in f)) (sym (body_word f 16))
@@ -45,8 +45,8 @@ module _ (f : Bytes) where
       hashes_are : pieces hash_size (byte 22 f / 16) (drop 23 f) ≡ pieces hash_size (hash_count_at18 (body f)) (drop 19 (body f))
       hashes_are = sym (rw (body_byte f 18, body_drop 19))
 
-      payload-is : part (payload_from f) (length f - payload_from f) f ≡ drop (19 + hash_size * hash_count_at18 (body f)) (body f)
-      payload-is = to_the_end (payload_from f) ∙ sym (rw (body_byte f 18) (body_drop (19 + hash_size * (byte 22 f / 16)) ∙ ap (λ (n : ℕ). drop n f) sum))
+      payload_is : part (payload_from f) (length f - payload_from f) f ≡ drop (19 + hash_size * hash_count_at18 (body f)) (body f)
+      payload_is = to_the_end (payload_from f) ∙ sym (rw (body_byte f 18) (body_drop (19 + hash_size * (byte 22 f / 16)) ∙ ap (λ (n : ℕ). drop n f) sum))
         where
           sum : 4 + (19 + hash_size * (byte 22 f / 16)) ≡ payload_from f
           sum = omega arith

@@ -85,41 +85,41 @@ module _ (s d : Bytes) (len-s : length s ≡ slot_size) where
       abbrev hs : Bytes
       hs = part hashes_at (hash_size * hash_count_of s) s
 
-      k-length : length k ≡ key_size
-      k-length = length_part key_at key_size s (omega arith)
+      k_length : length k ≡ key_size
+      k_length = length_part key_at key_size s (omega arith)
 
-      hs-length : length hs ≡ hash_size * hash_count_of s
-      hs-length = length_part hashes_at (hash_size * hash_count_of s) s (omega arith)
+      hs_length : length hs ≡ hash_size * hash_count_of s
+      hs_length = length_part hashes_at (hash_size * hash_count_of s) s (omega arith)
 
       front_length : length (k ++ m) ≡ 19
-      front_length = rw (length-append k m, k-length)
+      front_length = rw (length-append k m, k_length)
 
       right_is : k ++ m ++ hs ++ part payload_at (length_of s) s ≡ write_given (the_right (right_of s))
       right_is = rw (length_pieces hash_size (hash_count_of s) (drop hashes_at s), joined_pieces hash_size (hash_count_of s) (drop hashes_at s)) (simp append_assoc)
 
-      right-written : (v : ℕ) → reply_room ≤ length d
+      right_written : (v : ℕ) → reply_room ≤ length d
           → over_at (23 + hash_size * hash_count_of s) (part payload_at (length_of s) s)
           (over_at 23 hs (over_at 20 m (over_at 4 k (over_at 0 (head_of 3 v (19 + hash_size * hash_count_of s + length_of s)) d))))
           ≡ over (frame 3 v (write_given (the_right (right_of s)))) d
-      right-written v h =
+      right_written v h =
           let size : ℕ = 19 + hash_size * hash_count_of s + length_of s in
           let p : Bytes = part payload_at (length_of s) s in
           let x : Bytes = over_at 0 (head_of 3 v size) d in
           let lx : length x ≡ length d = over_length (head_of 3 v size) d 0 (omega arith) in
           let lp = payload_length in
-          let lk = k-length in
-          let lh = hs-length in
+          let lk = k_length in
+          let lh = hs_length in
           let lf = front_length in
-          let lb : length (k ++ m ++ hs) ≡ 19 + hash_size * hash_count_of s = length-append (k ++ m) hs ∙ rw (front_length, hs-length) in
+          let lb : length (k ++ m ++ hs) ≡ 19 + hash_size * hash_count_of s = length-append (k ++ m) hs ∙ rw (front_length, hs_length) in
           rw (over_more k m x 4 20 (omega arith) (omega arith), over_more (k ++ m) hs x 4 23 (omega arith) (omega arith))
           (parts_written 3 v size (23 + hash_size * hash_count_of s) (k ++ m ++ hs) p d (omega arith) (omega arith) (omega arith) ∙ ap (λ (b : Bytes). over (frame 3 v b) d) right_is)
 
       -- the same, step by step
-      pub right-steps : {n v l : ℕ} {c : Count} {f d₁ d₂ d₃ d₄ d₅ : Bytes} → n ≡ hash_count_of s → v ≡ 128 * kept_of s → c ≡ count_of s → l ≡ length_of s → f ≡ count_bytes c ++ ((16 * n) ∷ [])
+      pub right_steps : {n v l : ℕ} {c : Count} {f d₁ d₂ d₃ d₄ d₅ : Bytes} → n ≡ hash_count_of s → v ≡ 128 * kept_of s → c ≡ count_of s → l ≡ length_of s → f ≡ count_bytes c ++ ((16 * n) ∷ [])
           → d₁ ≡ over_at 0 (head_of 3 v (19 + hash_size * n + l)) d → d₂ ≡ over_at 4 (part key_at key_size s) d₁ → d₃ ≡ over_at 20 f d₂
           → d₄ ≡ over_at 23 (part hashes_at (hash_size * n) s) d₃ → d₅ ≡ over_at (23 + hash_size * n) (part payload_at l s) d₄
           → reply_room ≤ length d → d₅ ≡ over (frame 3 (128 * given_bit (the_right (right_of s))) (write_given (the_right (right_of s)))) d
-      right-steps {v = v} en ev ec el ef e₁ e₂ e₃ e₄ e₅ h = rw (e₅, e₄, e₃, e₂, e₁, ef, en, ec, el) (right-written v h ∙ ap (λ (x : ℕ). over (frame 3 x (write_given (the_right (right_of s)))) d) (second_is s ev))
+      right_steps {v = v} en ev ec el ef e₁ e₂ e₃ e₄ e₅ h = rw (e₅, e₄, e₃, e₂, e₁, ef, en, ec, el) (right_written v h ∙ ap (λ (x : ℕ). over (frame 3 x (write_given (the_right (right_of s)))) d) (second_is s ev))
 
 -- ---- as replies
 pub deny_frame : (kind : ℕ) (r : Refusal) → reply_frame kind (deny r) ≡ frame kind (code r) []

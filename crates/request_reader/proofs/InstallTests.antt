@@ -28,9 +28,9 @@ module _ (n : ℕ) (f : Bytes) {h : ℕ} {a : Asked} (e : h ≡ byte 32 f / 16) 
       no_payload short z = rw (← e, within, ← g, eq-eqb r 0 clear, le-ltb 0 (n - (29 + hash_size * h)) (omega arith)) z
 
       module _ (some : 29 + hash_size * h < n) where
-        pub long-payload : most_payload < n - (29 + hash_size * h) → a ≡ refusal Parameter → a ≡ of_install n f
+        pub long_payload : most_payload < n - (29 + hash_size * h) → a ≡ refusal Parameter → a ≡ of_install n f
         unfolding of_install
-        long-payload long z =
+        long_payload long z =
             rw (← e, within, ← g, eq-eqb r 0 clear, lt-ltb 0 (n - (29 + hash_size * h)) (omega arith), lt-leb (n - (29 + hash_size * h)) most_payload long) z
 
         pub installs : n - (29 + hash_size * h) ≤ most_payload → a ≡ of_right f h (n - (29 + hash_size * h)) → a ≡ of_install n f

@@ -151,12 +151,12 @@ module _ (t : Bytes) (whole : whole_slots t ≡ true) where
       settled : Settled i (settled_to i t) found u
       settled = rw now-is at s
 
-      pub found-byte : found ≡ finding_byte (finding_at i t)
-      found-byte = settled.byte_is ∙ ap finding_byte found_now
+      pub found_byte : found ≡ finding_byte (finding_at i t)
+      found_byte = settled.byte_is ∙ ap finding_byte found_now
 
-      pub settled-more : u ≡ settled_to (i + 1) t
+      pub settled_more : u ≡ settled_to (i + 1) t
       unfolding settled_to finding_at
-      settled-more =
+      settled_more =
           rw add-one
           (settled.left_is
           ∙ ap joined

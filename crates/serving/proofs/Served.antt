@@ -90,13 +90,13 @@ module _ {f : Bytes} {r : Asked} {b : Body} (a : Asks f r b) where
     pub obeys : Obeys table start f buffer table' buffer' 0 y
     obeys =
         record {
-          is = rw reads_as (λ i. outcome 0 (s.reply_is i) (s.table_is i) (is-updated i));
+          is = rw reads_as (λ i. outcome 0 (s.reply_is i) (s.table_is i) (is_updated i));
           changed = s.change_is ∙ ap (change_in (slots_of table)) (slots_then_lem ∙ ap slots_of (sym s.table_is));
           updates = rw s.change_is follows_change.updates;
         }
       where
-        is-updated : updated (tally_in table) y ≡ tally_in (table_after table answer)
-        is-updated = rw s.change_is (follows_change.is_tally ∙ ap tally_of slots_then_lem)
+        is_updated : updated (tally_in table) y ≡ tally_in (table_after table answer)
+        is_updated = rw s.change_is (follows_change.is_tally ∙ ap tally_of slots_then_lem)
 
 -- ---- a frame that is no request, on a well-formed table
 pub refused_obeys : (f : Bytes) (w : Why) (buffer : Bytes) (n : ℕ) (buffer' : Bytes) → Refuses f w buffer n buffer' → why_means w ≡ read_request f

@@ -96,13 +96,13 @@ module _ (t h : Bytes) (i : ℕ) where
 
   -- in a well-formed table its slot is well formed, with a length of 1 to 4,096
   pub record_fits : (e : Entry) → well_table t ≡ true → RecordAt t h i e → RecordFits (part (4288 * i) 4288 t)
-  record_fits e w r = record { sized = length_slot t i r.below; well = well; few = few_hashes (part (4288 * i) 4288 t) well; long = length_1_to_4096 (part (4288 * i) 4288 t) well taken-slot }
+  record_fits e w r = record { sized = length_slot t i r.below; well = well; few = few_hashes (part (4288 * i) 4288 t) well; long = length_1_to_4096 (part (4288 * i) 4288 t) well taken_slot }
     where
       well : well_slot (part (4288 * i) 4288 t) ≡ true
       well = slot_well t i w r.below
 
-      taken-slot : place_of (part (4288 * i) 4288 t) ≡ 0 → ⊥
-      taken-slot z = empty_taken h e (sym (unpack_empty (part (4288 * i) 4288 t) z) ∙ r.unpacked)
+      taken_slot : place_of (part (4288 * i) 4288 t) ≡ 0 → ⊥
+      taken_slot z = empty_taken h e (sym (unpack_empty (part (4288 * i) 4288 t) z) ∙ r.unpacked)
 
   -- every slot but an empty one has a handle
   pub none_empty : found_at (find h (slots_of t)) ≡ At i Empty → ⊥

@@ -93,17 +93,17 @@ module _ (t : Bytes) where
 
     -- at most 15 slots: four counts have room in one number, and the sum in 16 bits
     module _ (whole : whole_slots t ≡ true) where
-      pub slots-most-15 : slot_count t ≤ 15
-      slots-most-15 = rw (length_slots t) at (few_slots t whole well)
+      pub slots_most_15 : slot_count t ≤ 15
+      slots_most_15 = rw (length_slots t) at (few_slots t whole well)
 
-      pub counts-most-15 : (tally_in t).empty + (tally_in t).reserved + (tally_in t).enabled + (tally_in t).disabled ≤ 15
-      counts-most-15 = omega (arith, counts_all (slots_of t), few_slots t whole well)
+      pub counts_most_15 : (tally_in t).empty + (tally_in t).reserved + (tally_in t).enabled + (tally_in t).disabled ≤ 15
+      counts_most_15 = omega (arith, counts_all (slots_of t), few_slots t whole well)
 
       -- after the last slot the numbers are those of the tally
-      pub all-counted : (i places payload : ℕ) → slot_count t ≤ i → Counted t i places payload
+      pub all_counted : (i places payload : ℕ) → slot_count t ≤ i → Counted t i places payload
           → tally_with (places % 65536) (places / 65536 % 65536) (places / 4294967296 % 65536) (places / 281474976710656) payload ≡ tally_in t
       unfolding tally_of
-      all-counted i places payload end c =
-          unpacked (tally_in t) places payload counts-most-15
+      all_counted i places payload end c =
+          unpacked (tally_in t) places payload counts_most_15
           (omega (arith, rw (slots_end t i end) at c.placed))
           (omega (arith, rw (slots_end t i end) at c.summed))

@@ -113,12 +113,12 @@ module _ (t : Bytes) (whole : whole_slots t ≡ true) where
 
     -- the same of a table that is so by now
     module _ (t₁ : Bytes) (e : t₁ ≡ marked_to i t) where
-      pub lent-marks : all well_before (slot_bytes t) ≡ true
+      pub lent_marks : all well_before (slot_bytes t) ≡ true
           → (length (take k (drop (4288 * i) t₁)) ≡ 4288) × (kept_of (take k (drop (4288 * i) t₁)) ≡ 0) × (spare_of (take k (drop (4288 * i) t₁)) ≡ 0)
-      lent-marks w = rw (e, lent_slot) (ap (λ (s : Bytes). length s) (get_d_slots t i h) ∙ length_slot t i h, (lent_before w).no_bit, (lent_before w).spare)
+      lent_marks w = rw (e, lent_slot) (ap (λ (s : Bytes). length s) (get_d_slots t i h) ∙ length_slot t i h, (lent_before w).no_bit, (lent_before w).spare)
 
-      pub mark-again : (y : Bytes) → y ≡ turn_slot (take k (drop (4288 * i) t₁)) → take (4288 * i) t₁ ++ (y ++ drop k (drop (4288 * i) t₁)) ≡ marked_to (i + 1) t
-      mark-again y q = rw e (mark_more y (rw e at q))
+      pub mark_again : (y : Bytes) → y ≡ turn_slot (take k (drop (4288 * i) t₁)) → take (4288 * i) t₁ ++ (y ++ drop k (drop (4288 * i) t₁)) ≡ marked_to (i + 1) t
+      mark_again y q = rw e (mark_more y (rw e at q))
 
 -- ---- the tests before
 pub slots_before : (t : Bytes) → well_table_before t ≡ true → all well_before (slot_bytes t) ≡ true

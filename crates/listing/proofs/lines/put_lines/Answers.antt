@@ -3,7 +3,7 @@ use Prim.Native.Nat.{◌≤◌, ◌-◌}
 use native.Mathlib.Omega.{arith}
 use borrow.Author.Rules.{rules}
 use Rattle.texts.proofs.Writing.{wrote_length}
-use Rattle.listing.proofs.SlotLines.{Passed, passed_none, passed_all, line-asks, pass_next}
+use Rattle.listing.proofs.SlotLines.{Passed, passed_none, passed_all, line_asks, pass_next}
 use Rattle.listing.proofs.lines.put_lines.Goals as goal
 
 pub loop-i-init : goal.loop-i-init
@@ -12,7 +12,7 @@ loop-i-init c = (search rules, passed_none c.args.table.now c.args.out.now c.arg
 pub put_line-next-requires : goal.put_line-next-requires
 put_line-next-requires c = let s = c.slot_at in
     let asks =
-    line-asks c.args.table.now c.args.out.now c.args.at c.requires.0 c.requires.1 c.loop-i.i c.loop-i.next c.loop-i.out
+    line_asks c.args.table.now c.args.out.now c.args.at c.requires.0 c.requires.1 c.loop-i.i c.loop-i.next c.loop-i.out
     c.loop-i-test.true c.loop-i.invariant.1 s.result.now s.ensures.0 in
     (omega arith, s.ensures.1, asks.1, asks.2, asks.3)
 

@@ -3,7 +3,7 @@ use Prim.Native.Nat.{◌≤◌, ◌-◌}
 use native.Mathlib.Omega.{arith}
 use borrow.Author.Rules.{rules}
 use Rattle.texts.proofs.Writing.{wrote_length}
-use Rattle.listing.proofs.SlotLines.{Passed, passed_none, passed_all, line-asks, pass_next}
+use Rattle.listing.proofs.SlotLines.{Passed, passed_none, passed_all, line_asks, pass_next}
 use Rattle.listing.proofs.lines.put_lines.Given as goal
 
 abbrev pub invariant-loop-i : goal.invariant-loop-i

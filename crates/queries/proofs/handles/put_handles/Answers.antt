@@ -7,7 +7,7 @@ use lib.ListN.{length, take}
 use lib.Seq.{length-take-le}
 use borrow.Author.Rules.{rules}
 use Rattle.profile.specs.Sizes.{most_hashes}
-use Rattle.queries.proofs.Growth.{few_in_slot, Passed, passed_none, passed_all, room_next, pass-other, pass-listed}
+use Rattle.queries.proofs.Growth.{few_in_slot, Passed, passed_none, passed_all, room_next, pass_other, pass_listed}
 use Rattle.queries.proofs.handles.put_handles.Goals.{then-is_listed, else-is_listed}
 use Rattle.queries.proofs.handles.put_handles.Goals as goal
 

@@ -7,7 +7,7 @@ use lib.ListN.{length, take}
 use lib.Seq.{length-take-le}
 use borrow.Author.Rules.{rules}
 use Rattle.profile.specs.Sizes.{most_hashes}
-use Rattle.queries.proofs.Growth.{few_in_slot, Passed, passed_none, passed_all, room_next, pass-other, pass-listed}
+use Rattle.queries.proofs.Growth.{few_in_slot, Passed, passed_none, passed_all, room_next, pass_other, pass_listed}
 use Rattle.queries.proofs.handles.put_handles.Given as goal
 
 abbrev pub invariant-loop-i : goal.invariant-loop-i

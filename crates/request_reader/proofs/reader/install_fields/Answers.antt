@@ -2,7 +2,7 @@
 use mathlib.Core.Bool.{not}
 use mathlib.Core.Path.{ap, ◌∙◌}
 use Rattle.request_reader.proofs.Choices.{was_false, was_true}
-use Rattle.request_reader.proofs.InstallTests.{hashes_out, zero_bit_set, no_payload, long-payload, installs}
+use Rattle.request_reader.proofs.InstallTests.{hashes_out, zero_bit_set, no_payload, long_payload, installs}
 use borrow.Author.Rules.{rules}
 use Rattle.request_reader.proofs.reader.install_fields.Goals as goal
 
@@ -31,7 +31,7 @@ returns-then-n-start c = no_payload
     c.refuse-then-n-start.ensures
 
 pub returns-then-payload-gt-MOST_PAYLOAD : goal.returns-then-payload-gt-MOST_PAYLOAD
-returns-then-payload-gt-MOST_PAYLOAD c = long-payload
+returns-then-payload-gt-MOST_PAYLOAD c = long_payload
     _
     _
     (c.wide-hashes.ensures ∙ c.hash_count_of.ensures)

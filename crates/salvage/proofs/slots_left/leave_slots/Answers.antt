@@ -5,7 +5,7 @@ use mathlib.Core.Logic.{⊎_elim}
 use native.Mathlib.Omega.{arith}
 use lib.ListN.{length, length-set}
 use Rattle.profile.proofs.WholeSlots.{at_most_15}
-use Rattle.salvage.proofs.Leaving.{settled_to, settled_length, settled_whole, settled_none, settled_all, found-byte, settled-more}
+use Rattle.salvage.proofs.Leaving.{settled_to, settled_length, settled_whole, settled_none, settled_all, found_byte, settled_more}
 use Rattle.salvage.proofs.Reporting.{reported_to, cleared_to, reported_none, cleared_none, reported_length, few_to, reported_more, cleared_same, cleared_more, reported_all, cleared_all}
 use borrow.Author.Rules.{rules}
 use Rattle.salvage.proofs.slots_left.leave_slots.Goals.{then-found-ne-KEPT, else-found-ne-KEPT}
@@ -29,8 +29,8 @@ loop-i-preserved c = let t = c.args.t.now in
     let i = c.loop-i.i in
     let found = c.settle-found.result in
     let u = c.settle-found.new.t in
-    let e = found-byte t c.requires.0 i c.loop-i-test.true c.loop-i.t c.loop-i.invariant.3 found u c.settle-found.ensures in
-    let more = settled-more t c.requires.0 i c.loop-i-test.true c.loop-i.t c.loop-i.invariant.3 found u c.settle-found.ensures in (
+    let e = found_byte t c.requires.0 i c.loop-i-test.true c.loop-i.t c.loop-i.invariant.3 found u c.settle-found.ensures in
+    let more = settled_more t c.requires.0 i c.loop-i-test.true c.loop-i.t c.loop-i.invariant.3 found u c.settle-found.ensures in (
       omega (arith, c.loop-i-test.true),
       ap length more ∙ settled_length t c.requires.0 (i + 1),
       length-set c.loop-i.report i found ∙ c.loop-i.invariant.2,

@@ -5,7 +5,7 @@ use mathlib.Core.Logic.{⊎_elim}
 use native.Mathlib.Omega.{arith}
 use lib.ListN.{length, length-set}
 use Rattle.profile.proofs.WholeSlots.{at_most_15}
-use Rattle.salvage.proofs.Leaving.{settled_to, settled_length, settled_whole, settled_none, settled_all, found-byte, settled-more}
+use Rattle.salvage.proofs.Leaving.{settled_to, settled_length, settled_whole, settled_none, settled_all, found_byte, settled_more}
 use Rattle.salvage.proofs.Reporting.{reported_to, cleared_to, reported_none, cleared_none, reported_length, few_to, reported_more, cleared_same, cleared_more, reported_all, cleared_all}
 use borrow.Author.Rules.{rules}
 use Rattle.salvage.proofs.slots_left.leave_slots.Given as goal

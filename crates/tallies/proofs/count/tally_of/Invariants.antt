@@ -6,7 +6,7 @@ use lib.ListN.{get_or}
 use borrow.Author.Rules.{rules}
 use Rattle.profile.specs.Bytes.{word}
 use Rattle.tallies.specs.Shares.{in_sum}
-use Rattle.tallies.proofs.Counting.{ones, Counted, none_counted, one_counted, slots-most-15, counts-most-15, all-counted}
+use Rattle.tallies.proofs.Counting.{ones, Counted, none_counted, one_counted, slots_most_15, counts_most_15, all_counted}
 use Rattle.tallies.proofs.count.tally_of.Given as goal
 
 abbrev pub invariant-loop-i : goal.invariant-loop-i

@@ -3,7 +3,7 @@ use mathlib.Core.Path.{◌≡◌, refl, ap, ◌∙◌}
 use native.Mathlib.Omega.{arith}
 use Prim.Native.Nat.{ℕ, ◌+◌, ◌-◌, ◌*◌, ◌≤◌}
 use lib.ListN.{length}
-use Rattle.turning.proofs.Marked.{marked_to, marked_length, marked_none, marked_all, lent-marks, mark-again}
+use Rattle.turning.proofs.Marked.{marked_to, marked_length, marked_none, marked_all, lent_marks, mark_again}
 use borrow.Author.Rules.{rules}
 use Rattle.turning.proofs.marks.mark_slots.Given as goal
 
