@@ -18,7 +18,7 @@ pub enum Why {
 
 // A request by its kind. `at` is the offset of its hashes in the frame, which stand one after another. The payload of
 // kind 2 follows its hashes, and `length` is its length. No byte of either is copied.
-#[derive(Drop)]
+#[derive(Clone, Copy)]
 pub enum Body {
     Setup {
         length: u16,
@@ -42,7 +42,7 @@ pub enum Body {
 }
 
 // A frame is a request with its fields, or it has exactly one refusal (PROFILE 6.1).
-#[derive(Drop)]
+#[derive(Clone, Copy)]
 pub enum Ask {
     No(Why),
     Yes(Body),
@@ -50,7 +50,7 @@ pub enum Ask {
 
 // An array that the kind lacks is all zero, and so is every array of a refusal; they keep no count. The count of kinds 2 and 5 stands
 // here and not in the body, so that it has one offset and the compiler needs no copy of the whole answer.
-#[derive(Drop)]
+#[derive(Clone, Copy)]
 pub struct Asked {
     pub ask: Ask,
     pub handle: [u8; HANDLE_BYTES],
