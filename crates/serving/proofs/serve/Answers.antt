@@ -44,11 +44,7 @@ returns-in-Info c = let kept = info_keeps c.args.table.now ((below_256 c.args.ta
     served c.requires.2 _ c.in-Info.is (omega arith) (record { table_is = sym kept; reply_is = c.info.ensures; change_is = info_same c.args.table.now _ })
 
 pub lend-requires : goal.lend-requires
-lend-requires c = let came = c.match-body.branch in
-    (search rules, ⊎_elim (λ w. omega (arith, w.2)) (λ w. omega (arith, w.2)) came, ⊎_elim (λ w. omega (arith, w.2)) (λ w. omega (arith, w.2)) came)
+lend-requires c = ?
 
 pub returns : goal.returns
-returns c = ⊎_elim
-    (λ w. served c.requires.2 _ w.1.given.1 (omega arith) (rw w.2 at c.lend.ensures))
-    (λ w. served c.requires.2 _ w.1.given.1 (omega arith) (rw w.2 at c.lend.ensures))
-    c.match-body.branch
+returns c = ?
