@@ -1,6 +1,5 @@
 -- `serving::serve` meets its contract: each kind's own promise is the profile's answer to what the frame reads as. Assumes nothing.
 use mathlib.Core.Path.{sym, ap, ◌∙◌}
-use mathlib.Core.Logic.{⊎_elim}
 use native.Mathlib.Omega.{arith}
 use borrow.Author.Rules.{rules}
 use Rattle.profile.specs.Bytes.{Bytes256}
@@ -10,6 +9,7 @@ use Rattle.octets.proofs.ByteBounds.{below_256}
 use Rattle.removals.proofs.Cleared.{removed, cancelled}
 use Rattle.queries.proofs.Untouched.{list_keeps, info_keeps, list_same, info_same}
 use Rattle.serving.proofs.Served.{served_at, served}
+use Rattle.serving.proofs.serve.Goals.{in-Retrieve, in-Rek}
 use Rattle.serving.proofs.serve.Goals as goal
 
 pub returns-in-Setup : goal.returns-in-Setup
@@ -44,7 +44,13 @@ returns-in-Info c = let kept = info_keeps c.args.table.now ((below_256 c.args.ta
     served c.requires.2 _ c.in-Info.is (omega arith) (record { table_is = sym kept; reply_is = c.info.ensures; change_is = info_same c.args.table.now _ })
 
 pub lend-requires : goal.lend-requires
-lend-requires c = ?
+lend-requires c =
+    (search rules,
+    elim c.match-body.branch [ in-Retrieve w ↦ omega (arith, w.kind-is) | in-Rek w ↦ omega (arith, w.kind-is) ],
+    elim c.match-body.branch [ in-Retrieve w ↦ omega (arith, w.kind-is) | in-Rek w ↦ omega (arith, w.kind-is) ])
 
 pub returns : goal.returns
-returns c = ?
+returns c = elim c.match-body.branch [
+      in-Retrieve w ↦ served c.requires.2 _ w.in-Retrieve.is (omega arith) (rw w.kind-is at c.lend.ensures)
+    | in-Rek w ↦ served c.requires.2 _ w.in-Rek.is (omega arith) (rw w.kind-is at c.lend.ensures)
+    ]
