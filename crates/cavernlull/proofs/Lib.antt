@@ -1,3 +1,2 @@
 pub mod SmallNumbers
 pub mod ReadInto
-pub mod Walk

@@ -8,7 +8,7 @@ use profile::sizes::KEY_BYTES;
 
 // The cases of a reply (PROFILE 6.3). `Malformed` is the number 203. Offsets count from the frame's first byte. What each case means
 // is said by `meaning` in specs/Told.
-#[derive(Drop)]
+#[derive(Clone, Copy)]
 pub enum Answer {
     Malformed,
     Failed {
@@ -39,7 +39,7 @@ pub enum Answer {
 }
 
 // The key of kinds 3 and 4; with any other answer it is all zero.
-#[derive(Drop)]
+#[derive(Clone, Copy)]
 pub struct Told {
     pub answer: Answer,
     pub key: [u8; KEY_BYTES],
