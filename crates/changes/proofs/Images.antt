@@ -8,7 +8,7 @@ use Rattle.profile.specs.Bytes.{Bytes, byte, word_bytes, zeros, joined}
 use Rattle.profile.specs.Sizes.{hash_size, most_hashes}
 use Rattle.profile.specs.Slot.{Count, Right, recount, HasRoom}
 use Rattle.profile.specs.Table.{slot_head, count_bytes, image_fields, image, blank}
-use Rattle.profile.proofs.Counts.{kept_small, length_count}
+use Rattle.profile.proofs.Counts.{kept_small}
 use Rattle.profile.proofs.Strings.{length_zeros, length_each}
 use Rattle.buffers.specs.Over.{over_at}
 use Rattle.changes.proofs.OverFields.{over_field, zeros_split}

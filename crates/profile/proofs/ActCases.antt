@@ -3,7 +3,6 @@ use mathlib.Core.Path.{refl}
 use Rattle.profile.specs.Bytes.{zeros}
 use Rattle.profile.specs.Agent.{act, first_empty_from}
 use Rattle.profile.specs.ActCases
-use Rattle.profile.specs.Cases.{setups, installations, lendings, others, cases}
 
 pub acts_hold : ActCases.Hold
 unfolding ActCases.setups ActCases.installations ActCases.lendings ActCases.others ActCases.listings ActCases.cases act first_empty_from zeros

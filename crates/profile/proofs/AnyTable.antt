@@ -1,15 +1,13 @@
 -- PROFILE 2.5: every call leaves a well-formed table well formed, not only one that began blank.
-use Prim.Native.Nat.{◌%◌, ◌≤◌}
+use Prim.Native.Nat.{◌≤◌}
 use mathlib.Core.Path.{◌≡◌, refl, sym, ap, ◌∙◌}
 use mathlib.Core.List.{List, [], ◌∷◌, ◌++◌, map}
 use mathlib.Core.Bool.{Bool, true, false}
 use native.Mathlib.Omega.{arith}
-use lib.Dec.{eqb}
 use lib.ListN.{length, length-append}
-use Rattle.profile.specs.Bytes.{Bytes, if◌then◌else◌, same, from1to, joined, Bytes256}
-use Rattle.profile.specs.Sizes.{slot_size}
+use Rattle.profile.specs.Bytes.{Bytes, if◌then◌else◌, same, joined, Bytes256}
 use Rattle.profile.specs.Slot.{Entry, reserved, enabled, disabled, Slot, empty, taken, distinct}
-use Rattle.profile.specs.Table.{slot_count, slots_of, whole_slots, well_table}
+use Rattle.profile.specs.Table.{slots_of, whole_slots, well_table}
 use Rattle.profile.specs.Agent.{Call, agent}
 use Rattle.profile.specs.History.{Ledger}
 use Rattle.profile.specs.Run.{ledger_of, under_slot, under_setup, under_right, under_slots, under_ledger, Agrees}

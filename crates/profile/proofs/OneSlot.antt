@@ -1,5 +1,5 @@
 -- PROFILE 2.10: where one slot of a well-formed table has come to other bytes, a salvage clears at most one slot, and which that can be.
-use Prim.Native.Nat.{ℕ, zero, suc, ◌*◌, ◌/◌, ◌≤◌, ◌<◌}
+use Prim.Native.Nat.{ℕ, zero, suc, ◌≤◌, ◌<◌}
 use mathlib.Core.Path.{◌≡◌, refl, sym, ap, ◌∙◌}
 use mathlib.Core.Logic.{◌⊎◌, inl, inr}
 use mathlib.Core.List.{List, [], ◌∷◌, map}
@@ -7,12 +7,12 @@ use mathlib.Core.Bool.{Bool, true, false, true≢false, false≢true}
 use mathlib.Core.Option.{Option, some, some-injective}
 use native.Mathlib.Omega.{arith}
 use native.Mathlib.Nat.{suc_inj}
-use lib.ListN.{length, set, get_elem?, replicate, length-set}
+use lib.ListN.{length, set, get_elem?, length-set}
 use Rattle.profile.specs.Bytes.{Bytes, same, zeros, all, joined, Each}
 use Rattle.profile.specs.Sizes.{slot_size}
 use Rattle.profile.specs.Slot.{Entry, Slot, empty, taken, named, in_use, distinct}
 use Rattle.profile.specs.Table.{unpack, well_slot, slot_count, slot_bytes, whole_slots, well_table}
-use Rattle.profile.specs.Salvage.{Finding, kept, damaged, repeated, mended, repeats, judge, findings, left_by, cleared, findings_of, Salvaged, salvage}
+use Rattle.profile.specs.Salvage.{Finding, repeated, mended, repeats, judge, findings, left_by, cleared, findings_of, salvage}
 use Rattle.profile.specs.Salvages.{TakenAt, Finds, is_damaged, is_repeated, is_kept, Beside, stays, gives_way}
 use Rattle.profile.proofs.Logic.{and_parts, or_parts, same_refl, same_eq, split}
 use Rattle.profile.proofs.Strings.{length_each, length_pieces}

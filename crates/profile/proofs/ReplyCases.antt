@@ -4,7 +4,6 @@ use Rattle.profile.specs.Frame.{frame}
 use Rattle.profile.specs.Agent.{reply_frame}
 use Rattle.profile.specs.Device.{read_reply}
 use Rattle.profile.specs.ReplyCases
-use Rattle.profile.specs.Cases.{shapes, cases}
 
 pub replies_hold : ReplyCases.Hold
 unfolding ReplyCases.heads ReplyCases.shapes ReplyCases.rights ReplyCases.answers ReplyCases.cases read_reply reply_frame frame

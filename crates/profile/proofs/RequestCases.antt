@@ -2,9 +2,7 @@
 use mathlib.Core.Path.{refl}
 use Rattle.profile.specs.Frame.{frame}
 use Rattle.profile.specs.Request.{read_request, write_request}
-use Rattle.profile.specs.Device.{write}
 use Rattle.profile.specs.RequestCases
-use Rattle.profile.specs.Cases.{cases}
 
 pub requests_hold : RequestCases.Hold
 unfolding RequestCases.requests RequestCases.no_frames RequestCases.heads RequestCases.kinds RequestCases.lengths

@@ -2,11 +2,11 @@
 use Prim.Native.Nat.{ℕ, zero, suc, ◌+◌, ◌%◌, ◌≤◌}
 use mathlib.Core.Path.{◌≡◌, ◌∙◌}
 use mathlib.Core.List.{List, [], ◌∷◌, map}
-use mathlib.Core.Bool.{Bool, true, false, not, false≢true}
+use mathlib.Core.Bool.{true, not}
 use native.Mathlib.Omega.{arith}
 use lib.Dec.{eqb}
 use lib.ListN.{length, take, drop}
-use Rattle.profile.specs.Bytes.{Bytes, Bytes256, if◌then◌else◌, byte, word, all, joined, pieces}
+use Rattle.profile.specs.Bytes.{Bytes, Bytes256, byte, word, all, joined, pieces}
 use Rattle.profile.specs.Slot.{distinct}
 use Rattle.profile.specs.Table.{slot_count, slot_bytes, slots_of, whole_slots}
 use Rattle.profile.specs.Turning.{well_before, well_table_before, turn_slot, Turned, turn}

@@ -21,7 +21,7 @@ use Rattle.profile.proofs.Logic.{and_parts, not_true, if_both, split}
 use Rattle.profile.proofs.Lookup.{found_looked}
 use Rattle.profile.proofs.FirstEmpty.{not_there}
 use Rattle.profile.proofs.Steps.{Stays, Returns, Does}
-use Rattle.profile.proofs.Calls.{Failed, Comes, comes, failed_history, history_append}
+use Rattle.profile.proofs.Calls.{Failed, Comes, failed_history, history_append}
 use Rattle.profile.proofs.Sound.{Sound, sound_comes, sound_call}
 use Rattle.profile.proofs.Mirror.{mirrors}
 use Rattle.profile.proofs.Keys.{number_map, number_append}

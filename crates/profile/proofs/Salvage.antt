@@ -1,22 +1,22 @@
 -- PROFILE 2.10: what a salvage finds of each slot, and what it leaves.
-use Prim.Native.Nat.{ℕ, zero, suc, ◌+◌, ◌*◌, ◌/◌, ◌%◌, ◌≤◌, ◌<◌}
+use Prim.Native.Nat.{ℕ, zero, suc, ◌*◌, ◌/◌, ◌≤◌, ◌<◌}
 use mathlib.Core.Path.{◌≡◌, refl, sym, ap, ap₂, ◌∙◌}
 use mathlib.Core.Logic.{◌⊎◌, inl, inr}
 use mathlib.Core.List.{List, [], ◌∷◌, ◌++◌, map}
 use mathlib.Core.Option.{Option, some, some-injective}
-use mathlib.Core.Bool.{Bool, true, false, ◌&&◌, ◌||◌, not, true≢false, false≢true}
+use mathlib.Core.Bool.{Bool, true, false, ◌||◌, not, true≢false, false≢true}
 use native.Mathlib.Omega.{arith}
 use native.Mathlib.Nat.{not-suc-le-zero, le_of_suc-le-suc}
-use lib.Dec.{eqb, ltb}
-use lib.ListN.{length, get_elem?, take, drop, set, replicate, length-map, length-append, length-drop}
+use lib.Dec.{ltb}
+use lib.ListN.{length, get_elem?, drop, replicate, length-map, length-append, length-drop}
 use lib.Seq.{drop_at, take_all}
-use Rattle.profile.specs.Bytes.{Bytes, if◌then◌else◌, same, zeros, over, all, any, joined, pieces, Each, Bytes256, from1to}
+use Rattle.profile.specs.Bytes.{Bytes, zeros, over, all, joined, Each}
 use Rattle.profile.specs.Slot.{Entry, Slot, empty, taken, named, in_use, distinct}
 use Rattle.profile.specs.Table.{unpack, pack, well_slot, slot_count, slot_bytes, slots_of, whole_slots, well_table}
 use Rattle.profile.specs.Salvage.{Finding, kept, damaged, repeated, finding_byte, mended, repeats, judge, findings, left_by, left_slots, cleared, findings_of, left_of, report_of, Salvaged, salvage}
 use Rattle.profile.specs.Salvages.{TakenAt, Finds, is_damaged, is_repeated, is_kept, SlotSalvaged, Salvages}
-use Rattle.profile.proofs.Logic.{both, and_parts, or_parts, or_true, not_true, not_false, if_cases, if_else, same_refl, same_eq, same_false, split, ltb_false, ltb_over, ltb_lt}
-use Rattle.profile.proofs.Strings.{bytes_append, bytes_zeros, bytes_take, bytes_drop, length_zeros, length_each, length_pieces, joined_pieces}
+use Rattle.profile.proofs.Logic.{both, and_parts, or_parts, or_true, not_true, not_false, if_cases, if_else, same_refl, same_eq, split, ltb_false}
+use Rattle.profile.proofs.Strings.{length_zeros, length_each, length_pieces, joined_pieces}
 use Rattle.profile.proofs.Pack.{unpack_pack, well_pack}
 use Rattle.profile.proofs.WholeSlots.{slots_joined, size, cut, at_most_15}
 use Rattle.profile.proofs.FirstEmpty.{not_there}

@@ -1,7 +1,7 @@
 -- PROFILE 8.4: slots with the same records, wherever these stand, answer alike; only a list may have another order and, under a limit, other handles.
 use Prim.Native.Nat.{ℕ, zero, suc, ◌+◌, ◌≤◌, ◌<◌}
 use mathlib.Core.Path.{◌≡◌, refl, sym, ap, ◌∙◌}
-use mathlib.Core.List.{List, [], ◌∷◌, cons≢nil, head-eq_of_cons-eq, map}
+use mathlib.Core.List.{List, [], ◌∷◌, cons≢nil, head-eq_of_cons-eq}
 use mathlib.Core.Option.{some, some-injective}
 use mathlib.Core.Bool.{Bool, true, false, ◌||◌}
 use native.Mathlib.Omega.{arith}

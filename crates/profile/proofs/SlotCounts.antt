@@ -10,7 +10,7 @@ use Rattle.profile.specs.Bytes.{Bytes, Bytes256}
 use Rattle.profile.specs.Slot.{Right, recount, reserved, enabled, disabled, Slot, empty, taken, TableFits}
 use Rattle.profile.specs.Table.{slots_of, table_of, whole_slots, well_table}
 use Rattle.profile.specs.Request.{Request, setup, install, retrieve, rek, enable, remove, cancel, list, info}
-use Rattle.profile.specs.Agent.{Given, one, Call, Outcome, agent}
+use Rattle.profile.specs.Agent.{Given, Call, Outcome, agent}
 use Rattle.profile.specs.History.{Exchange}
 use Rattle.profile.specs.Rising.{NoHigher}
 use Rattle.profile.specs.Unlisted.{slot_right, HoldsRight}

@@ -15,7 +15,7 @@ use Rattle.profile.specs.Table.{slot_count, slots_of, whole_slots, well_table}
 use Rattle.profile.specs.Tally.{Tally, tally_in, same_tally}
 use Rattle.profile.specs.Frame.{frame, kind_number, status_in}
 use Rattle.profile.specs.Request.{Request, setup, install, retrieve, rek, enable, remove, cancel, list, info, Read, asks, refused, no_frame, read_request}
-use Rattle.profile.specs.Agent.{Answer, deny, done, listed, fitting, act, first_empty_from, reply_frame, Call, Outcome, refuse, replied, Obeyed, stopped, answered, obey, on_bytes, agent}
+use Rattle.profile.specs.Agent.{Answer, deny, done, listed, fitting, act, first_empty_from, reply_frame, Call, Outcome, replied, Obeyed, stopped, answered, obey, on_bytes, agent}
 use Rattle.profile.specs.History.{Ledger, blank_ledger, Exchange, history}
 use Rattle.profile.specs.Run.{ledger_of, exchange, exchange_of, blank_table, ledger_then}
 use Rattle.profile.specs.Starts.{AlikeButPlaces, OtherStart, OtherStarts, SameList, SameCall, SameRun}

@@ -3,7 +3,6 @@ use mathlib.Core.Path.{refl}
 use Rattle.profile.specs.Bytes.{zeros}
 use Rattle.profile.specs.Table.{unpack, image, pack, well_rest, well_slot, slot_bytes, slots_of, table_of, whole_slots, well_table}
 use Rattle.profile.specs.TableCases
-use Rattle.profile.specs.Cases.{shapes}
 
 pub tables_hold : TableCases.Hold
 unfolding TableCases.shapes TableCases.tables TableCases.handles TableCases.slots whole_slots zeros well_table slot_bytes well_rest well_slot slots_of unpack table_of pack image

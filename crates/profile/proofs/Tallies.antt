@@ -1,18 +1,18 @@
 -- PROFILE 2.8 and 8.5: what holds of the tally, of one call and along a sequence of calls; and across a turning.
 use Prim.Native.Nat.{ℕ, zero, suc, ◌+◌, ◌≤◌, ◌<◌}
-use mathlib.Core.Path.{◌≡◌, refl, sym, ap, ap₂, ◌∙◌}
-use mathlib.Core.List.{List, [], ◌∷◌, map}
-use mathlib.Core.Option.{some, some-injective}
+use mathlib.Core.Path.{◌≡◌, refl, sym, ap, ◌∙◌}
+use mathlib.Core.List.{List, [], ◌∷◌}
+use mathlib.Core.Option.{some-injective}
 use mathlib.Core.Bool.{Bool, true, false, not, true≢false, false≢true}
 use native.Mathlib.Omega.{arith}
 use lib.Dec.{eqb, leb, ltb}
-use lib.ListN.{length, get_or, get_elem?, replicate}
-use Rattle.profile.specs.Bytes.{Bytes, In, zeros}
+use lib.ListN.{length, get_or, replicate}
+use Rattle.profile.specs.Bytes.{Bytes, In}
 use Rattle.profile.specs.Sizes.{reply_room}
-use Rattle.profile.specs.Slot.{reserved, enabled, disabled, Slot, empty, taken}
-use Rattle.profile.specs.Table.{place_of, handle_of, length_of, right_of, unpack, slot_bytes, slots_of, table_of, slot_count, whole_slots, well_table}
+use Rattle.profile.specs.Slot.{reserved, enabled, disabled, empty, taken}
+use Rattle.profile.specs.Table.{place_of, handle_of, length_of, right_of, unpack, slot_bytes, slots_of, slot_count, whole_slots, well_table}
 use Rattle.profile.specs.Turning.{right_before, unpack_before, turn}
-use Rattle.profile.specs.Tally.{Tally, tally_with, in_slot, plus, tally_of, tally_in, same_tally}
+use Rattle.profile.specs.Tally.{tally_with, in_slot, plus, tally_of, tally_in}
 use Rattle.profile.specs.Frame.{kind_number}
 use Rattle.profile.specs.Request.{Read, asks, refused, no_frame, read_request}
 use Rattle.profile.specs.Agent.{first_empty_from, Call, Outcome, refuse, obey, on_bytes, agent}

@@ -1,5 +1,4 @@
 -- The worked cases of the tally hold: computed.
-use Prim.Native.Nat.{ℕ}
 use mathlib.Core.Path.{refl, ap}
 use Rattle.profile.specs.Bytes.{zeros, over}
 use Rattle.profile.specs.Table.{unpack, image, pack, well_rest, well_slot, slot_bytes, slots_of, table_of, whole_slots, well_table}

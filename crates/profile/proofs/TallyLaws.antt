@@ -1,12 +1,12 @@
 -- PROFILE 2.8: the tally of some slots number by number, with one slot changed, and with other records in the same places; when two tallies are the same.
 use Prim.Native.Nat.{ℕ, zero, suc, ◌+◌}
-use mathlib.Core.Path.{◌≡◌, refl, ap, ap₂, ◌∙◌, sym}
+use mathlib.Core.Path.{◌≡◌, refl, ap, ap₂}
 use mathlib.Core.List.{List, [], ◌∷◌, map}
 use mathlib.Core.Option.{some, some-injective}
 use mathlib.Core.Bool.{Bool, true, false, ◌&&◌}
 use native.Mathlib.Omega.{arith}
 use lib.Dec.{eqb}
-use lib.ListN.{length, set, get_elem?}
+use lib.ListN.{set, get_elem?}
 use Rattle.profile.specs.Slot.{reserved, enabled, disabled, Slot, empty, taken}
 use Rattle.profile.specs.Tally.{Tally, tally_with, in_slot, plus, tally_of, same_tally}
 use Rattle.profile.specs.Tallies.{CountsAll}

@@ -1,23 +1,23 @@
 -- PROFILE 2.7: what the turning of a table leaves, and what it refuses.
-use Prim.Native.Nat.{ℕ, zero, suc, ◌+◌, ◌*◌, ◌/◌, ◌%◌, ◌≤◌, ◌<◌}
+use Prim.Native.Nat.{ℕ, zero, suc, ◌+◌, ◌*◌, ◌%◌, ◌<◌}
 use mathlib.Core.Path.{◌≡◌, refl, sym, ap, ap₂, ◌∙◌}
-use mathlib.Core.List.{List, [], ◌∷◌, map, append-nil}
+use mathlib.Core.List.{List, [], ◌∷◌, map}
 use mathlib.Core.Bool.{Bool, true, false, ◌&&◌, ◌||◌, not, and-false, true≢false, false≢true}
 use native.Mathlib.Omega.{arith}
 use lib.Dec.{eqb}
-use lib.ListN.{length, get_or, take, drop, length-map, length-drop, length-take}
+use lib.ListN.{length, get_or, take, drop, length-map, length-drop}
 use lib.Seq.{drop-drop, get_or-drop, get_or-take}
-use Rattle.profile.specs.Bytes.{Bytes, if◌then◌else◌, byte, part, word, same, all_zero, from1to, all, any, joined, pieces, Each}
+use Rattle.profile.specs.Bytes.{Bytes, byte, part, word, same, all_zero, all, any, joined, pieces, Each}
 use Rattle.profile.specs.Sizes.{hash_size}
-use Rattle.profile.specs.Slot.{Count, NoneKept, Kept, kept_bit, count_holds, count_with, Right, Entry, reserved, enabled, disabled, Slot, empty, taken, in_use, distinct}
+use Rattle.profile.specs.Slot.{kept_bit, Right, reserved, enabled, disabled, Slot, empty, taken, in_use, distinct}
 use Rattle.profile.specs.Table.{place_of, hash_count_of, kept_of, spare_of, count_of, right_of, unpack, well_count, well_rest, well_slot, slot_count, slot_bytes, slots_of, whole_slots, well_table}
 use Rattle.profile.specs.Turning.{well_before, well_table_before, count_before, right_before, unpack_before, keeps_count, turn_slot, Turned, turn}
 use Rattle.profile.specs.Theorems.{Turns}
 use Rattle.profile.proofs.Logic.{both, and_parts, not_false, eqb_eq, eqb_true, if_else, if_cases}
-use Rattle.profile.proofs.Strings.{low_two, word_drop, zero_byte, length_each, length_pieces, each_pieces, pieces_joined}
+use Rattle.profile.proofs.Strings.{low_two, word_drop, zero_byte, length_each, length_pieces}
 use Rattle.profile.proofs.WholeSlots.{slots_joined, size, cut}
 use Rattle.profile.proofs.Counts.{slot_kept_again}
-use Rattle.profile.proofs.Unpack.{WellRest, well_rest_lem, WellReserved, well_reserved_lem}
+use Rattle.profile.proofs.Unpack.{well_rest_lem, WellReserved, well_reserved_lem}
 
 -- ---- the tests of a slot by the rules before
 pub record Before (s : Bytes) : Type 0 where

@@ -7,8 +7,8 @@ use mathlib.Core.Option.{Option, some, some-injective}
 use mathlib.Core.Bool.{Bool, true}
 use native.Mathlib.Omega.{arith}
 use lib.ListN.{length, get_elem?, set, replicate}
-use Rattle.profile.specs.Bytes.{Bytes, In, Bytes256}
-use Rattle.profile.specs.Slot.{Count, Right, recount, Entry, reserved, enabled, disabled, Slot, empty, taken, in_use, distinct, TableFits}
+use Rattle.profile.specs.Bytes.{Bytes, Bytes256}
+use Rattle.profile.specs.Slot.{Right, recount, Entry, reserved, enabled, disabled, Slot, empty, taken, distinct, TableFits}
 use Rattle.profile.specs.Table.{slots_of, table_of, whole_slots, well_table}
 use Rattle.profile.specs.Request.{Request, setup, install, retrieve, rek, enable, remove, cancel, list, info, RequestFits}
 use Rattle.profile.specs.Agent.{Given, handles, Answer, done, Found, absent, one, find, act, Call, Outcome, agent}
@@ -24,7 +24,7 @@ use Rattle.profile.proofs.WellFormed.{table_fits}
 use Rattle.profile.proofs.Requests.{read_fits}
 use Rattle.profile.proofs.Fitting.{fitting, blank_fits}
 use Rattle.profile.proofs.Steps.{Turns, Stays, LendsOut, Returns, Does}
-use Rattle.profile.proofs.Calls.{Succeeds, Comes, comes}
+use Rattle.profile.proofs.Calls.{Comes, comes}
 use Rattle.profile.proofs.Sound.{zeros_table}
 use Rattle.profile.proofs.CountOrder.{raise_means}
 

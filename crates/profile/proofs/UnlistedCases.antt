@@ -1,17 +1,17 @@
 -- The worked cases of rights without a hash hold.
 use Prim.Native.Nat.{ℕ, zero, suc}
-use mathlib.Core.Path.{◌≡◌, refl, sym, ap, ◌∙◌}
+use mathlib.Core.Path.{◌≡◌, refl, ap, ◌∙◌}
 use mathlib.Core.Logic.{◌⊎◌, inl, inr}
 use mathlib.Core.List.{List, [], ◌∷◌}
 use mathlib.Core.Option.{Option, none, some}
 use lib.ListN.{length, get_elem?}
 use Rattle.profile.specs.Bytes.{Bytes, byte, In}
-use Rattle.profile.specs.Slot.{Kept, Right, recount, Slot}
+use Rattle.profile.specs.Slot.{Kept, Right, Slot}
 use Rattle.profile.specs.Request.{list}
-use Rattle.profile.specs.Agent.{Given, nothing, the_right, the_key, handles, counted, Answer, deny, done, act}
+use Rattle.profile.specs.Agent.{nothing, the_right, the_key, handles, counted, Answer, deny, done, act}
 use Rattle.profile.specs.CaseBytes.{H2, H3, H4, A}
-use Rattle.profile.specs.Unlisted.{Listed, slot_right, HoldsRight, HoldsRightBut, FoundByCourse}
-use Rattle.profile.specs.UnlistedCases.{bare, both, slots, Hold}
+use Rattle.profile.specs.Unlisted.{Listed, slot_right, HoldsRight}
+use Rattle.profile.specs.UnlistedCases.{bare, slots, Hold}
 use Rattle.profile.proofs.Logic.{not_equal, not_over}
 use Rattle.profile.proofs.FirstEmpty.{not_there}
 

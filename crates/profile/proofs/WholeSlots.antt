@@ -1,5 +1,5 @@
 -- PROFILE 2.1: a table cut into its slots: how long it is, how many slots it has, and slots joined again.
-use Prim.Native.Nat.{ℕ, ◌*◌, ◌/◌, ◌%◌, ◌≤◌}
+use Prim.Native.Nat.{◌*◌, ◌%◌, ◌≤◌}
 use mathlib.Core.Path.{◌≡◌, sym, ap, ◌∙◌}
 use mathlib.Core.List.{List, [], append-nil}
 use mathlib.Core.Bool.{true}

@@ -5,7 +5,6 @@ use Rattle.profile.specs.Frame.{frame}
 use Rattle.profile.specs.Request.{write_request}
 use Rattle.profile.specs.Device.{write}
 use Rattle.profile.specs.WriterCases
-use Rattle.profile.specs.Cases.{cases}
 
 pub writer_hold : WriterCases.Hold
 unfolding WriterCases.frames WriterCases.refusals WriterCases.bounds WriterCases.lacking WriterCases.cases write write_request frame over

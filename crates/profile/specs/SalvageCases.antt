@@ -1,13 +1,13 @@
 -- PROFILE 2.10, 2.11 and 9.7, in worked cases: damaged tables, what is left of them, their reports, and what is printed.
-use Rattle.std.specs.Prelude.{ℕ, ◌≡◌, List, [], ◌∷◌, ◌++◌, map, take, replicate}
+use Rattle.std.specs.Prelude.{ℕ, ◌≡◌, List, [], ◌∷◌, ◌++◌, map, take}
 use Prim.Native.String.{String}
 use Rattle.profile.specs.Bytes.{Bytes}
 use Rattle.profile.specs.Text.{text}
 use Rattle.profile.specs.Slot.{reserved, empty, taken}
-use Rattle.profile.specs.Salvage.{Finding, kept, damaged, repeated, judge, mended, findings, left_by, cleared, Salvaged, salvage}
+use Rattle.profile.specs.Salvage.{kept, damaged, repeated, judge, mended, left_by, cleared, Salvaged, salvage}
 use Rattle.profile.specs.Salvages.{Beside}
 use Rattle.profile.specs.SalvageText.{table_printed, finding_lines, salvage_text}
-use Rattle.profile.specs.CaseBytes.{hex, changed, renamed, H0, H1, H2, H4}
+use Rattle.profile.specs.CaseBytes.{hex, changed, renamed, H0, H1, H4}
 use Rattle.profile.specs.CaseTables.{blank, after1, after7, after9, after11, counted7, bare, hashed2, nameless, waiting}
 
 -- ---- damaged slots

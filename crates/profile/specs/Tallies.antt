@@ -1,5 +1,5 @@
 -- PROFILE 2.8 and 8.5: the tally said once more, and what holds of it along a sequence of calls.
-use Rattle.std.specs.Prelude.{ℕ, ◌+◌, ◌≡◌, List, [], ◌∷◌, length}
+use Rattle.std.specs.Prelude.{◌+◌, ◌≡◌, List, [], ◌∷◌, length}
 use Rattle.profile.specs.Bytes.{Bytes}
 use Rattle.profile.specs.Slot.{Slot}
 use Rattle.profile.specs.Tally.{Tally, tally_of}

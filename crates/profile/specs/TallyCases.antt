@@ -1,11 +1,11 @@
 -- PROFILE 2.8 and 8.5 in worked cases: tallies by hand, tallies worked out, and what it is to carry one along.
-use Rattle.std.specs.Prelude.{ℕ, ◌≡◌, List, [], ◌∷◌, ◌++◌, map, true, false, replicate}
+use Rattle.std.specs.Prelude.{◌≡◌, List, [], ◌∷◌, ◌++◌, map, true, false, replicate}
 use Rattle.profile.specs.Bytes.{Bytes}
 use Rattle.profile.specs.Slot.{NoneKept, Kept, right_with, reserved, enabled, disabled, Slot, empty, taken}
 use Rattle.profile.specs.Tally.{Tally, tally_with, in_slot, plus, tally_of, tally_in, same_tally, Tallied, tallied, work_out}
 use Rattle.profile.specs.Agent.{Call}
-use Rattle.profile.specs.Run.{blank_table, numbers_then}
-use Rattle.profile.specs.CaseBytes.{hex, changed, renamed, H1, H2, H3, H4, K, L, A, B, five}
+use Rattle.profile.specs.Run.{numbers_then}
+use Rattle.profile.specs.CaseBytes.{hex, changed, H1, H2, K, L, A, five}
 use Rattle.profile.specs.CaseTables.{blank, after1, after7, after9, counted7, bare, bare_lent, hashed2, lent2, roomy, longest, waiting}
 use Rattle.profile.specs.StartCases.{calling, setup1, install1, remove1, blank1, right5}
 use Rattle.profile.specs.Tallies.{Carries}

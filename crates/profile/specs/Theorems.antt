@@ -9,7 +9,7 @@ use Rattle.profile.specs.Slot.{Count, raises, Right, reserved, enabled, disabled
 use Rattle.profile.specs.Table.{unpack, pack, well_slot, slot_bytes, slot_count, slots_of, table_of, whole_slots, well_table}
 use Rattle.profile.specs.Turning.{unpack_before, keeps_count, Turned, turn}
 use Rattle.profile.specs.Tally.{tally_with, in_slot, plus, tally_of, tally_in}
-use Rattle.profile.specs.Salvage.{Salvaged, salvage}
+use Rattle.profile.specs.Salvage.{salvage}
 use Rattle.profile.specs.Frame.{count_raised, Kind, kind_of, is_status, kind_number, status_in}
 use Rattle.profile.specs.Request.{Request, setup, enable, list, asks, read_request, write_request, with_verdict, RequestFits}
 use Rattle.profile.specs.Agent.{Given, Answer, deny, done, find, act, lowest_empty, first_empty_from, reply_frame, Call, Outcome, refuse, replied, agent}

@@ -9,7 +9,7 @@ use Rattle.profile.specs.History.{for_use, lent, gone, Ledger, Exchange}
 use Rattle.profile.specs.CaseBytes.{hex, changed, renamed, H0, H1, H2, H3, H4, K, A, five}
 use Rattle.profile.specs.CaseTables.{blank, after1, after7, after9, after11, last1, lent1, used_up, lent2, hashed2}
 use Rattle.profile.specs.Cases.{Case, buffer, expected, done, gives, refused, stopped, from, keeps, enable as back, enable_free as back_free}
-use Rattle.profile.specs.Total.{Return, no_return, returned, return_by, return_in, change, Totals, totals_with, totals_hold, Totalled, totalling}
+use Rattle.profile.specs.Total.{Return, no_return, returned, return_by, return_in, Totals, totals_with, totals_hold, Totalled, totalling}
 use Rattle.profile.specs.Totals.{Within, returns_told, changes_of, counted_in, totals_then, table_totalled, calls_made, FrameBytes, no_totals}
 
 -- so much below 0

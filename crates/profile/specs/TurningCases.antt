@@ -4,7 +4,7 @@ use Rattle.profile.specs.Bytes.{Bytes}
 use Rattle.profile.specs.Slot.{NoneKept, Kept, right_with, reserved, enabled, disabled, Slot, empty, taken}
 use Rattle.profile.specs.Turning.{well_before, unpack_before, turn_slot, Turned, turn, keeps_count}
 use Rattle.profile.specs.CaseBytes.{hex, changed, H1, H2, H3, H4, K, L, A, B, five}
-use Rattle.profile.specs.CaseTables.{blank, after1, after7, after9, counted7, lent7, used_up, bare, hashed2, lent2, hashed8, longest, waiting}
+use Rattle.profile.specs.CaseTables.{blank, after1, after7, after9, counted7, lent7, used_up, bare, hashed2, hashed8, longest, waiting}
 
 -- ---- slots as they were: byte 0 without the bit, whatever the count
 abbrev pub old7 : Bytes

@@ -8,7 +8,6 @@ use native.Mathlib.Nat.{zero-add}
 use lib.ListN.{length, take, drop, length-map, length-append, length-take}
 use lib.Seq.{take_at, take_all}
 use Rattle.profile.specs.Bytes.{Bytes, zeros, over}
-use Rattle.profile.specs.Sizes.{table_length}
 use Rattle.profile.specs.Table.{slot_count, slot_bytes, whole_slots}
 use Rattle.profile.specs.Salvage.{Finding, kept, damaged, repeated, finding_byte, cleared, findings_of, left_of, report_of, Salvaged, salvage}
 use Rattle.profile.specs.SalvageText.{table_printed, finding_lines, salvage_text}

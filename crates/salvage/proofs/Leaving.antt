@@ -2,7 +2,7 @@
 use Prim.Native.Nat.{ℕ, zero, suc, ◌+◌, ◌*◌, ◌≤◌, ◌<◌}
 use mathlib.Core.Path.{◌≡◌, refl, sym, ap, ap₂, ◌∙◌}
 use mathlib.Core.List.{List, [], ◌∷◌, map}
-use mathlib.Core.Bool.{Bool, true, false, ◌||◌, true≢false, false≢true}
+use mathlib.Core.Bool.{Bool, true, false, ◌||◌, false≢true}
 use native.Mathlib.Omega.{arith}
 use native.Mathlib.Nat.{le_of_suc-le-suc, not-suc-le-zero}
 use native.Mathlib.Numerals.{add-one}
@@ -10,8 +10,8 @@ use lib.ListN.{length, get_or, take, set}
 use lib.Seq.{take_all}
 use Rattle.profile.specs.Bytes.{Bytes, joined, Each}
 use Rattle.profile.specs.Slot.{Slot, empty, taken, named, in_use}
-use Rattle.profile.specs.Table.{unpack, well_slot, slot_count, slot_bytes, slots_of, whole_slots}
-use Rattle.profile.specs.Salvage.{Finding, kept, damaged, repeated, finding_byte, mended, repeats, judge, findings, left_by, left_slots, findings_of, left_of}
+use Rattle.profile.specs.Table.{unpack, slot_count, slot_bytes, slots_of, whole_slots}
+use Rattle.profile.specs.Salvage.{Finding, finding_byte, mended, repeats, judge, findings, left_by, left_slots, findings_of, left_of}
 use Rattle.profile.proofs.Logic.{same_eq}
 use Rattle.profile.proofs.Strings.{length_each, joined_pieces}
 use Rattle.profile.proofs.WholeSlots.{slots_joined, size, cut}

@@ -6,13 +6,13 @@ use mathlib.Core.Option.{some, some-injective}
 use native.Mathlib.Omega.{arith}
 use native.Mathlib.Nat.{le_of_suc-le-suc, not-suc-le-zero}
 use native.Mathlib.Numerals.{add-one}
-use lib.ListN.{length, get_or, get_elem?, take, drop, set, length-map}
+use lib.ListN.{length, get_or, get_elem?, take, drop, set}
 use lib.Seq.{take_all}
 use Rattle.profile.specs.Bytes.{Bytes, over}
 use Rattle.profile.specs.Table.{slot_count, slot_bytes}
-use Rattle.profile.specs.Salvage.{Finding, kept, damaged, repeated, finding_byte, findings, cleared, findings_of, report_of}
+use Rattle.profile.specs.Salvage.{Finding, kept, damaged, repeated, finding_byte, cleared, findings_of, report_of}
 use Rattle.profile.proofs.FirstEmpty.{not_there}
-use Rattle.profile.proofs.Salvage.{finding_at_lem, length_findings, few_cleared}
+use Rattle.profile.proofs.Salvage.{finding_at_lem, length_findings}
 use Rattle.tables.proofs.SlotParts.{length_bytes}
 use Rattle.salvage.proofs.Leaving.{finding_at}
 

@@ -4,7 +4,7 @@ use mathlib.Core.Path.{◌≡◌, refl, sym, ap, ◌∙◌}
 use mathlib.Core.List.{List, [], ◌∷◌, ◌++◌}
 use mathlib.Core.Bool.{true}
 use native.Mathlib.Omega.{arith}
-use lib.ListN.{length, get_or, take, drop, set}
+use lib.ListN.{get_or, take, drop, set}
 use lib.Seq.{take_all}
 use Rattle.profile.specs.Bytes.{Bytes, zeros, joined}
 use Rattle.profile.specs.Table.{slot_count, slot_bytes, whole_slots}

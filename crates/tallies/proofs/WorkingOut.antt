@@ -1,5 +1,5 @@
 -- What working out a tally gives, by the two tests of the table (PROFILE 2.8). Assumes nothing.
-use mathlib.Core.Path.{◌≡◌, refl}
+use mathlib.Core.Path.{◌≡◌}
 use mathlib.Core.Bool.{true, false}
 use Rattle.profile.specs.Bytes.{Bytes}
 use Rattle.profile.specs.Table.{whole_slots, well_table}

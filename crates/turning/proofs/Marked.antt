@@ -1,5 +1,5 @@
 -- The slots of a table, of which the first i are turned. Assumes nothing.
-use Prim.Native.Nat.{ℕ, zero, suc, ◌+◌, ◌-◌, ◌*◌, ◌≤◌, ◌<◌}
+use Prim.Native.Nat.{ℕ, zero, suc, ◌+◌, ◌*◌, ◌≤◌, ◌<◌}
 use mathlib.Core.Path.{◌≡◌, refl, sym, ap, ap₂, ◌∙◌}
 use mathlib.Core.List.{List, [], ◌∷◌, ◌++◌, map}
 use mathlib.Core.Bool.{true}
@@ -9,7 +9,7 @@ use native.Mathlib.Numerals.{add-one}
 use lib.Dec.{eqb}
 use lib.ListN.{length, get_or, take, drop, set, length-drop}
 use lib.Seq.{take_all, drop-drop}
-use Rattle.profile.specs.Bytes.{Bytes, if◌then◌else◌, word, all, joined, Each}
+use Rattle.profile.specs.Bytes.{Bytes, word, all, joined, Each}
 use Rattle.profile.specs.Slot.{distinct}
 use Rattle.profile.specs.Table.{kept_of, spare_of, slot_count, slot_bytes, slots_of, whole_slots}
 use Rattle.profile.specs.Turning.{well_before, well_table_before, turn_slot}

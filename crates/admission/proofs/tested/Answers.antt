@@ -1,12 +1,7 @@
 -- `admission::tested` meets its contract: the numbers 101, 102, 105, 103 and 106, in this order, or 0. Assumes nothing.
-use Prim.Native.Nat.{◌<◌}
-use mathlib.Core.Path.{◌≡◌, sym, ap, ◌∙◌}
-use mathlib.Core.Bool.{true}
+use mathlib.Core.Path.{sym, ap, ◌∙◌}
 use native.Mathlib.Omega.{arith}
-use borrow.Author.Rules.{rules}
-use borrow.Author.Tests.{not-true, not-false}
-use Rattle.profile.specs.Table.{slot_count, whole_slots, well_table}
-use Rattle.profile.specs.Tally.{tally_in, same_tally}
+use Rattle.profile.specs.Tally.{same_tally}
 use Rattle.admission.proofs.TestLaws.{tests_101, tests_102, tests_105, tests_103, tests_106, tests_0}
 use Rattle.admission.proofs.tested.Goals as goal
 

@@ -1,7 +1,6 @@
 -- `agent::call` meets its contract: given back with the number of a test that fails, or answered. Assumes nothing.
 use mathlib.Core.Path.{sym, ◌∙◌}
-use borrow.Author.Rules.{rules}
-use Rattle.agent.proofs.Steps.{Passed, passed, given_back, answered}
+use Rattle.agent.proofs.Steps.{passed, given_back, answered}
 use Rattle.agent.proofs.call.Goals as goal
 
 pub returns-then-number-ne-DONE : goal.returns-then-number-ne-DONE

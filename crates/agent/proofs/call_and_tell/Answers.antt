@@ -1,9 +1,8 @@
 -- `agent::call_and_tell` meets its contract: given back with the number of a test that fails, or answered, with what was done to the slots. Assumes nothing.
 use mathlib.Core.Path.{sym, ◌∙◌}
-use borrow.Author.Rules.{rules}
 use Rattle.profile.specs.Table.{slots_of}
 use Rattle.tallies.proofs.Changing.{none_moved}
-use Rattle.agent.proofs.Steps.{Passed, passed, given_back, answered}
+use Rattle.agent.proofs.Steps.{passed, given_back, answered}
 use Rattle.agent.proofs.call_and_tell.Goals as goal
 
 pub returns-then-number-ne-DONE : goal.returns-then-number-ne-DONE

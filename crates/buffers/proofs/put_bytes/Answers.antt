@@ -1,6 +1,5 @@
 -- `buffers::put_bytes` meets its contract: all of s is a part of it. Assumes nothing.
 use Rattle.buffers.proofs.Overlays.{whole_over}
-use borrow.Author.Rules.{rules}
 use Rattle.buffers.proofs.put_bytes.Goals as goal
 
 pub returns : goal.returns

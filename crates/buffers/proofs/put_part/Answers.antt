@@ -2,7 +2,6 @@
 use Prim.Native.Nat.{◌+◌, ◌-◌}
 use native.Mathlib.Omega.{arith}
 use Rattle.buffers.proofs.Overlays.{over_copied}
-use borrow.Author.Rules.{rules}
 use Rattle.buffers.proofs.put_part.Goals as goal
 
 pub returns : goal.returns

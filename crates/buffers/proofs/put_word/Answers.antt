@@ -1,5 +1,4 @@
 -- `buffers::put_word` meets its contract. Assumes nothing.
-use borrow.Author.Rules.{rules}
 use Rattle.buffers.proofs.put_word.Goals as goal
 
 pub returns : goal.returns

@@ -1,5 +1,4 @@
 -- `cavernlull::cavernlull_read_reply` meets its contract: what is told of the frame is left, or nothing is changed. Assumes nothing.
-use borrow.Author.Rules.{rules}
 use Rattle.cavernlull.proofs.SmallNumbers.{reads_small}
 use Rattle.cavernlull.proofs.ReadInto.{read_into, read_none}
 use Rattle.cavernlull.proofs.cavernlull_read_reply.Goals as goal

@@ -2,7 +2,6 @@
 use Prim.Native.Nat.{◌+◌, ◌-◌, ◌*◌}
 use native.Mathlib.Omega.{arith}
 use Rattle.changes.proofs.Lent.{wiped}
-use borrow.Author.Rules.{rules}
 use Rattle.changes.proofs.wipe_slot.Goals as goal
 
 pub returns : goal.returns

@@ -1,6 +1,5 @@
 -- `counts::count_with` meets its contract. Assumes nothing.
 use mathlib.Core.Path.{sym}
-use borrow.Author.Rules.{rules}
 use Rattle.counts.proofs.Bits.{bit_set}
 use Rattle.counts.proofs.count_with.Goals as goal
 

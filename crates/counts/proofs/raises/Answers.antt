@@ -1,7 +1,6 @@
 -- `counts::raises` meets its contract, case by case. Assumes nothing.
 use mathlib.Core.Path.{sym, ap₂}
 use Rattle.profile.specs.Slot.{raises as count_raises}
-use borrow.Author.Rules.{rules}
 use Rattle.counts.proofs.raises.Goals as goal
 
 pub returns-in-Kept-sent-2 : goal.returns-in-Kept-sent-2

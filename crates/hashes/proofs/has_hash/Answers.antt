@@ -1,10 +1,8 @@
 -- `hashes::has_hash` meets its contract. The invariant: the hashes from i on decide. Assumes nothing.
-use mathlib.Core.Path.{◌≡◌, refl, sym, ap, ◌∙◌}
+use mathlib.Core.Path.{refl, sym, ap, ◌∙◌}
 use native.Mathlib.Omega.{arith}
-use Prim.Native.Nat.{◌≤◌, ◌-◌}
-use lib.ListN.{drop}
 use borrow.Author.Rules.{rules}
-use Rattle.profile.specs.Bytes.{same, any, pieces}
+use Rattle.profile.specs.Bytes.{same, any}
 use Rattle.slots.proofs.Turns.{any_pass, any_stop}
 use Rattle.hashes.proofs.Querying.{hashes_step, hashes_end, hash_compared}
 use Rattle.hashes.proofs.has_hash.Goals as goal
@@ -22,10 +20,10 @@ returns-then-same_from c = let a = c.args in
 
 pub loop-i-preserved : goal.loop-i-preserved
 loop-i-preserved c = let a = c.args in (
-      omega arith,
-      c.loop-i.invariant.1 ∙ any_pass (same a.asked) (hashes_step a.bytes.now a.count c.loop-i.i (omega arith))
-          (hash_compared a.asked _ _ (search rules) (search rules) c.hash_of-hash.ensures c.same_from.ensures ∙ c.if-same_from.false),
-    )
+  omega arith,
+  c.loop-i.invariant.1 ∙ any_pass (same a.asked) (hashes_step a.bytes.now a.count c.loop-i.i (omega arith))
+      (hash_compared a.asked _ _ (search rules) (search rules) c.hash_of-hash.ensures c.same_from.ensures ∙ c.if-same_from.false),
+)
 
 pub returns : goal.returns
 returns c = let a = c.args in

@@ -1,12 +1,8 @@
 -- `hashes::has_hash` meets its contract. The invariant: the hashes from i on decide. Assumes nothing.
-use mathlib.Core.Path.{◌≡◌, refl, sym, ap, ◌∙◌}
-use native.Mathlib.Omega.{arith}
+use mathlib.Core.Path.{◌≡◌}
 use Prim.Native.Nat.{◌≤◌, ◌-◌}
 use lib.ListN.{drop}
-use borrow.Author.Rules.{rules}
 use Rattle.profile.specs.Bytes.{same, any, pieces}
-use Rattle.slots.proofs.Turns.{any_pass, any_stop}
-use Rattle.hashes.proofs.Querying.{hashes_step, hashes_end, hash_compared}
 use Rattle.hashes.proofs.has_hash.Given as goal
 
 abbrev pub invariant-loop-i : goal.invariant-loop-i

@@ -1,13 +1,10 @@
 -- `hashes::has_one_of` meets its contract. The invariant: none of the query's first k hashes is the record's. Assumes nothing.
 use mathlib.Core.Path.{◌≡◌, sym, ◌∙◌}
-use mathlib.Core.Bool.{Bool, false}
 use mathlib.Core.List.{[]}
 use native.Mathlib.Omega.{arith}
-use Prim.Native.Nat.{ℕ, ◌≤◌, ◌-◌}
-use lib.ListN.{length, take}
+use lib.ListN.{length}
 use lib.Seq.{take-length}
 use borrow.Author.Rules.{rules}
-use Rattle.profile.specs.Bytes.{Bytes, same, any, pieces}
 use Rattle.octets.proofs.Comparing.{any_more, any_found}
 use Rattle.hashes.proofs.has_one_of.Invariants.{has}
 use Rattle.hashes.proofs.has_one_of.Goals as goal

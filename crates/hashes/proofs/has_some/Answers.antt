@@ -1,5 +1,4 @@
 -- `hashes::has_some` meets its contract. Assumes nothing.
-use borrow.Author.Rules.{rules}
 use Rattle.hashes.proofs.Querying.{record_none, record_some}
 use Rattle.hashes.proofs.has_some.Goals as goal
 

@@ -3,7 +3,6 @@ use mathlib.Core.Path.{sym, ap, ◌∙◌}
 use native.Mathlib.Omega.{arith}
 use Rattle.slots.specs.Places.{place_number}
 use Rattle.hashes.proofs.Querying.{not_listed, listed_all, listed_some}
-use borrow.Author.Rules.{rules}
 use Rattle.hashes.proofs.is_listed.Goals as goal
 
 pub returns-then-q-eq0 : goal.returns-then-q-eq0

@@ -1,15 +1,13 @@
 -- `lendings::lend` meets its contract: refused as it was decided, or the reply from the slot and the slot lent. Assumes nothing.
 use Prim.Native.Nat.{◌*◌}
-use mathlib.Core.Path.{◌≡◌, ap, ◌∙◌}
-use Rattle.profile.specs.Bytes.{Bytes, over, Bytes256}
+use mathlib.Core.Path.{ap, ◌∙◌}
+use Rattle.profile.specs.Bytes.{Bytes, over}
 use Rattle.profile.specs.Table.{length_of, right_of}
 use Rattle.profile.specs.Frame.{frame}
 use Rattle.profile.specs.Agent.{given_bit, write_given}
 use Rattle.octets.proofs.ByteBounds.{below_256}
-use Rattle.changes.specs.Change.{slot_at}
-use Rattle.slots.specs.declared.place.Place.TheVariants.{Enabled}
 use Rattle.decisions.proofs.Answers.{refused_serves, done_serves}
-use Rattle.decisions.proofs.Deciding.{Held, fits_lent, lent_moves}
+use Rattle.decisions.proofs.Deciding.{fits_lent, lent_moves}
 use Rattle.lendings.specs.Lending.{lent_by}
 use Rattle.lendings.proofs.Outcomes.{lend_refused, to_lend, lends}
 use borrow.Author.Rules.{rules}

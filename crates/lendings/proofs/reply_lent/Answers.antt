@@ -1,7 +1,6 @@
 -- `lendings::reply_lent` meets its contract, by the kind. Assumes nothing.
 use mathlib.Core.Path.{◌≡◌}
 use native.Mathlib.Omega.{arith}
-use borrow.Author.Rules.{rules}
 use Rattle.lendings.proofs.reply_lent.Goals as goal
 
 pub returns-then-kind-eq3 : goal.returns-then-kind-eq3

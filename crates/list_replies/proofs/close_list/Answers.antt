@@ -1,6 +1,5 @@
 -- `list_replies::close_list` meets its contract: a head, and the byte after it. Assumes nothing.
 use Rattle.list_replies.proofs.Growing.{start_steps}
-use borrow.Author.Rules.{rules}
 use Rattle.list_replies.proofs.close_list.Goals as goal
 
 pub returns : goal.returns

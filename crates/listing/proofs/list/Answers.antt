@@ -2,9 +2,7 @@
 use mathlib.Core.Path.{ap}
 use mathlib.Core.Bool.{not}
 use native.Mathlib.Omega.{arith}
-use Rattle.listing.specs.Written.{Listable}
 use Rattle.listing.proofs.Whole.{listable, listed_102, listed_103, listed_lines}
-use borrow.Author.Rules.{rules}
 use Rattle.listing.proofs.list.Goals as goal
 
 pub returns-then-not-whole_slots : goal.returns-then-not-whole_slots

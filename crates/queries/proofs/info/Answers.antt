@@ -2,8 +2,7 @@
 use mathlib.Core.Path.{◌∙◌}
 use native.Mathlib.Omega.{arith}
 use Rattle.octets.proofs.ByteBounds.{below_256}
-use Rattle.slots.specs.declared.place.Place.TheVariants.{Enabled}
-use Rattle.decisions.proofs.Deciding.{Held, chosen_enabled, fits_lent}
+use Rattle.decisions.proofs.Deciding.{chosen_enabled, fits_lent}
 use Rattle.queries.proofs.Informed.{info_refused, info_done}
 use borrow.Author.Rules.{rules}
 use Rattle.queries.proofs.info.Goals as goal

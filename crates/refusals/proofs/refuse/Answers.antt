@@ -1,10 +1,7 @@
 -- `refusals::refuse` meets its contract: why a frame is no request fixes the number and the reply. Assumes nothing.
-use Prim.Native.Nat.{◌≤◌}
-use mathlib.Core.Path.{◌≡◌, ap}
-use lib.ListN.{length}
+use mathlib.Core.Path.{ap}
 use borrow.Author.Rules.{rules}
-use Rattle.profile.specs.Frame.{Refusal, integrity, parameter, unsupported}
-use Rattle.profile.specs.Request.{refused}
+use Rattle.profile.specs.Frame.{integrity, parameter, unsupported}
 use Rattle.request_reader.specs.Answer.{why_means}
 use Rattle.refusals.proofs.Refused.{refused_long, refuses_no_frame, refuses_with}
 use Rattle.refusals.proofs.refuse.Goals as goal

@@ -1,6 +1,5 @@
 -- `refusals::refuse_with` meets its contract. Assumes nothing.
 use mathlib.Core.Path.{refl}
-use borrow.Author.Rules.{rules}
 use Rattle.refusals.proofs.refuse_with.Goals as goal
 
 pub returns : goal.returns

@@ -1,12 +1,9 @@
 -- `removals::clear` meets its contract: refused as it was decided, or the slot cleared. Assumes nothing.
-use mathlib.Core.Path.{◌≡◌, ap, ◌∙◌}
-use mathlib.Core.Bool.{true}
+use mathlib.Core.Path.{ap, ◌∙◌}
 use Rattle.profile.specs.Table.{length_of, slots_of}
 use Rattle.octets.proofs.ByteBounds.{below_256}
-use Rattle.changes.specs.Change.{slot_at}
-use Rattle.decisions.specs.Decisions.{takes_place}
 use Rattle.decisions.proofs.Answers.{refused_serves, done_serves}
-use Rattle.decisions.proofs.Deciding.{refuses, Held, chosen}
+use Rattle.decisions.proofs.Deciding.{refuses, chosen}
 use Rattle.removals.proofs.Cleared.{clear_expects, cleared, clear_moves}
 use borrow.Author.Rules.{rules}
 use Rattle.removals.proofs.clear.Goals as goal

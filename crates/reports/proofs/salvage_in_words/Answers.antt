@@ -1,9 +1,8 @@
 -- `reports::salvage_in_words` meets its contract: the line of a refused table, or the lines of its slots and the number. Assumes nothing.
 use native.Mathlib.Omega.{arith}
-use lib.ListN.{length, replicate}
+use lib.ListN.{replicate}
 use Rattle.profile.proofs.WholeSlots.{at_most_15}
 use Rattle.reports.proofs.Whole.{over_15, up_to_15, prints_refusal, prints_lines}
-use borrow.Author.Rules.{rules}
 use Rattle.reports.proofs.salvage_in_words.Goals as goal
 
 pub put_refusal-refused-requires : goal.put_refusal-refused-requires

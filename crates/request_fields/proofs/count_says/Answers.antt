@@ -2,7 +2,6 @@
 use mathlib.Core.Path.{ap}
 use mathlib.Core.Bool.{Bool, ◌&&◌}
 use lib.Dec.{leb}
-use borrow.Author.Rules.{rules}
 use Rattle.request_fields.proofs.count_says.Goals as goal
 
 pub returns : goal.returns

@@ -1,14 +1,10 @@
 -- `returns::enable` meets its contract: refused as it was decided or by its count, kept as it is, or enabled again. Assumes nothing.
-use mathlib.Core.Path.{◌≡◌, sym, ap, ap₂, ◌∙◌, subst}
-use mathlib.Core.Bool.{Bool, true, ◌&&◌}
-use Rattle.profile.specs.Bytes.{Bytes, Bytes256}
+use mathlib.Core.Path.{sym, ap, ap₂, ◌∙◌, subst}
+use mathlib.Core.Bool.{Bool, ◌&&◌}
 use Rattle.profile.specs.Slot.{Count, raises}
 use Rattle.profile.specs.Table.{count_of, length_of}
 use Rattle.octets.proofs.ByteBounds.{below_256}
-use Rattle.changes.specs.Change.{slot_at}
 use Rattle.slots.specs.declared.place.Place.{Place}
-use Rattle.slots.specs.declared.place.Place.TheVariants.{Disabled}
-use Rattle.decisions.specs.Decisions.{takes_place, installed, lent}
 use Rattle.decisions.proofs.Answers.{done_serves, kept_serves}
 use Rattle.decisions.proofs.Deciding.{Held, chosen, return_moves}
 use Rattle.returns.proofs.Outcomes.{refuse_serves, not_disabled, enable_refused, stays, raised, returned}

@@ -1,6 +1,5 @@
 -- `room::onward` meets its contract: within the slots, or past the last one. Assumes nothing.
 use native.Mathlib.Omega.{arith}
-use borrow.Author.Rules.{rules}
 use Rattle.profile.proofs.FirstEmpty.{onward_up, onward_round}
 use Rattle.room.proofs.onward.Goals as goal
 

@@ -1,9 +1,7 @@
 -- `salvage::salvage` meets its contract: refused by the table's length, refused by the report buffer's, or every slot settled. Assumes nothing.
 use mathlib.Core.Path.{sym, ◌∙◌}
 use native.Mathlib.Omega.{arith}
-use borrow.Author.Tests.{not-true, not-false}
 use Rattle.salvage.proofs.Outcomes.{by_length, by_report, by_slots}
-use borrow.Author.Rules.{rules}
 use Rattle.salvage.proofs.salvage.Goals as goal
 
 pub returns-then-not-whole_slots : goal.returns-then-not-whole_slots

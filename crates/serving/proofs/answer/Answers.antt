@@ -1,10 +1,4 @@
 -- `serving::answer` meets its contract: the frame is refused, or its request is served. Assumes nothing.
-use mathlib.Core.Path.{◌≡◌}
-use borrow.Author.Rules.{rules}
-use Rattle.profile.specs.Request.{read_request}
-use Rattle.request_reader.specs.declared.asked.Why.{Why}
-use Rattle.request_reader.specs.Answer.{why_means}
-use Rattle.serving.specs.Obeying.{why_of}
 use Rattle.serving.proofs.Served.{why_means_lem, refused_obeys, obeys}
 use Rattle.serving.proofs.answer.Goals as goal
 

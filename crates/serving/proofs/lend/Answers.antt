@@ -1,5 +1,4 @@
 -- `serving::lend` meets its contract: what is lent is the profile's answer. Assumes nothing.
-use borrow.Author.Rules.{rules}
 use Rattle.serving.proofs.Served.{lent_as}
 use Rattle.serving.proofs.lend.Goals as goal
 

@@ -2,7 +2,6 @@
 use mathlib.Core.Path.{sym, ap, ◌∙◌}
 use native.Mathlib.Omega.{arith}
 use borrow.Author.Rules.{rules}
-use Rattle.profile.specs.Bytes.{Bytes256}
 use Rattle.request_reader.specs.declared.asked.Ask.TheVariants.{Yes}
 use Rattle.request_reader.proofs.ByCase.{install_within, list_within}
 use Rattle.octets.proofs.ByteBounds.{below_256}
@@ -44,13 +43,14 @@ returns-in-Info c = let kept = info_keeps c.args.table.now ((below_256 c.args.ta
     served c.requires.2 _ c.in-Info.is (omega arith) (record { table_is = sym kept; reply_is = c.info.ensures; change_is = info_same c.args.table.now _ })
 
 pub lend-requires : goal.lend-requires
-lend-requires c =
-    (search rules,
-    elim c.match-body.branch [ in-Retrieve w ↦ omega (arith, w.kind-is) | in-Rek w ↦ omega (arith, w.kind-is) ],
-    elim c.match-body.branch [ in-Retrieve w ↦ omega (arith, w.kind-is) | in-Rek w ↦ omega (arith, w.kind-is) ])
+lend-requires c = (
+  search rules,
+  elim c.match-body.branch [ in-Retrieve w ↦ omega (arith, w.kind-is) | in-Rek w ↦ omega (arith, w.kind-is) ],
+  elim c.match-body.branch [ in-Retrieve w ↦ omega (arith, w.kind-is) | in-Rek w ↦ omega (arith, w.kind-is) ],
+)
 
 pub returns : goal.returns
 returns c = elim c.match-body.branch [
-      in-Retrieve w ↦ served c.requires.2 _ w.in-Retrieve.is (omega arith) (rw w.kind-is at c.lend.ensures)
-    | in-Rek w ↦ served c.requires.2 _ w.in-Rek.is (omega arith) (rw w.kind-is at c.lend.ensures)
-    ]
+  | in-Retrieve w ↦ served c.requires.2 _ w.in-Retrieve.is (omega arith) (rw w.kind-is at c.lend.ensures)
+  | in-Rek w ↦ served c.requires.2 _ w.in-Rek.is (omega arith) (rw w.kind-is at c.lend.ensures)
+]

@@ -1,9 +1,5 @@
 -- `tallies::work_out` meets its contract: the two tests of the table, then its tally. Assumes nothing.
-use mathlib.Core.Path.{◌≡◌, sym, ◌∙◌}
-use mathlib.Core.Bool.{true}
-use borrow.Author.Tests.{not-true, not-false}
-use borrow.Author.Rules.{rules}
-use Rattle.profile.specs.Table.{whole_slots, well_table}
+use mathlib.Core.Path.{sym, ◌∙◌}
 use Rattle.tallies.proofs.WorkingOut.{not_whole, not_well, worked_out}
 use Rattle.tallies.proofs.work_out.Goals as goal
 

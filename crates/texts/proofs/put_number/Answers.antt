@@ -1,9 +1,5 @@
 -- `texts::put_number` meets its contract: the digits that the kit shows are the profile's. Assumes nothing.
-use mathlib.Core.Path.{◌≡◌}
-use lib.ListN.{take}
-use Rattle.texts.specs.Written.{number}
 use Rattle.texts.proofs.Digits.{shown_number}
-use borrow.Author.Rules.{rules}
 use Rattle.texts.proofs.put_number.Goals as goal
 
 pub put_word-requires : goal.put_word-requires

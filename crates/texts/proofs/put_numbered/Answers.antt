@@ -1,6 +1,5 @@
 -- `texts::put_numbered` meets its contract: the word, the number, a newline. Assumes nothing.
 use Rattle.texts.proofs.Writing.{numbered_there}
-use borrow.Author.Rules.{rules}
 use Rattle.texts.proofs.put_numbered.Goals as goal
 
 pub returns : goal.returns

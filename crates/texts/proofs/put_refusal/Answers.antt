@@ -2,7 +2,6 @@
 use native.Mathlib.Omega.{arith}
 use Rattle.texts.proofs.Digits.{number_few}
 use Rattle.texts.proofs.Writing.{is_refusal}
-use borrow.Author.Rules.{rules}
 use Rattle.texts.proofs.put_refusal.Goals as goal
 
 pub put_numbered-requires : goal.put_numbered-requires

@@ -2,12 +2,10 @@
 use mathlib.Core.Bool.{not}
 use mathlib.Core.Path.{◌≡◌, sym, ap, ◌∙◌}
 use borrow.Author.Rules.{rules}
-use borrow.Author.Tests.{not-false}
 use lib.IntN.{ℤ}
 use mir.Syntax.{w32}
 use mir.Val.{SFits, to_z, of_z}
 use mir.Facts.{to_z-of_z}
-use Rattle.profile.specs.Agent.{Call}
 use Rattle.profile.specs.Total.{totals_with, totals_hold, with_return}
 use Rattle.serving.specs.Call.{call_of}
 use Rattle.totals.specs.Returns.{return_said}
@@ -18,21 +16,21 @@ pub returns-then-not-holds : goal.returns-then-not-holds
 returns-then-not-holds c =
     let total_is : to_z w32 (of_z w32 c.args.total.now) ≡ c.args.total.now = to_z-of_z {w = w32} (record { sfits = search rules }) in
     let holds_is : c.holds.result ≡ totals_hold (totals_with c.args.total.now c.args.returns.now) =
-      c.holds.ensures ∙ ap (λ (z : ℤ). totals_hold (totals_with z c.args.returns.now)) total_is in
+    c.holds.ensures ∙ ap (λ (z : ℤ). totals_hold (totals_with z c.args.returns.now)) total_is in
     given_108 c.args.table.now (call_of c.args.tally c.args.start c.args.frame.now c.args.reply.now) c.args.total.now c.args.returns.now c.args.change.now c.holds.result holds_is (ap not c.if-not-holds.true)
 
 pub with_return-sum-requires : goal.with_return-sum-requires
 with_return-sum-requires c =
     let total_is : to_z w32 (of_z w32 c.args.total.now) ≡ c.args.total.now = to_z-of_z {w = w32} (record { sfits = search rules }) in
     let holds_is : c.holds.result ≡ totals_hold (totals_with c.args.total.now c.args.returns.now) =
-      c.holds.ensures ∙ ap (λ (z : ℤ). totals_hold (totals_with z c.args.returns.now)) total_is in
+    c.holds.ensures ∙ ap (λ (z : ℤ). totals_hold (totals_with z c.args.returns.now)) total_is in
     rw total_is (sym holds_is ∙ c.if-not-holds.false)
 
 pub returns : goal.returns
 returns c =
     let total_is : to_z w32 (of_z w32 c.args.total.now) ≡ c.args.total.now = to_z-of_z {w = w32} (record { sfits = search rules }) in
     let holds_is : c.holds.result ≡ totals_hold (totals_with c.args.total.now c.args.returns.now) =
-      c.holds.ensures ∙ ap (λ (z : ℤ). totals_hold (totals_with z c.args.returns.now)) total_is in
+    c.holds.ensures ∙ ap (λ (z : ℤ). totals_hold (totals_with z c.args.returns.now)) total_is in
     let sum = c.with_return-sum in
     let called = c.call_and_tell-called in
     let total_fits : SFits w32 c.with_return-sum.result.total = record { sfits = search rules } in

@@ -1,12 +1,7 @@
 -- `zeros::all_zero` meets its contract. The invariant: what is left to look at decides the answer. Assumes nothing.
-use mathlib.Core.Path.{◌≡◌, refl, sym, ◌∙◌}
-use Prim.Native.Nat.{◌-◌}
+use mathlib.Core.Path.{refl, sym, ◌∙◌}
 use native.Mathlib.Omega.{arith}
-use borrow.Author.Tests.{not-true, not-false}
-use lib.ListN.{length, drop, length-drop, length-take}
-use Rattle.profile.specs.Bytes.{all_zero}
 use Rattle.zeros.proofs.ZeroBytes.{zero_pass, zero_stop, zero_last}
-use borrow.Author.Rules.{rules}
 use Rattle.zeros.proofs.all_zero.Goals as goal
 
 pub loop-rest-init : goal.loop-rest-init

@@ -1,12 +1,7 @@
 -- `zeros::all_zero` meets its contract. The invariant: what is left to look at decides the answer. Assumes nothing.
-use mathlib.Core.Path.{◌≡◌, refl, sym, ◌∙◌}
-use Prim.Native.Nat.{◌-◌}
-use native.Mathlib.Omega.{arith}
-use borrow.Author.Tests.{not-true, not-false}
-use lib.ListN.{length, drop, length-drop, length-take}
+use mathlib.Core.Path.{◌≡◌}
+use lib.ListN.{length}
 use Rattle.profile.specs.Bytes.{all_zero}
-use Rattle.zeros.proofs.ZeroBytes.{zero_pass, zero_stop, zero_last}
-use borrow.Author.Rules.{rules}
 use Rattle.zeros.proofs.all_zero.Given as goal
 
 abbrev pub invariant-loop-rest : goal.invariant-loop-rest

@@ -1,10 +1,10 @@
 -- `zeros::clear` meets its contract. The invariant: i zeros, and the rest of d as it was. Assumes nothing.
-use Prim.Native.Nat.{ℕ, ◌≤◌, ◌<◌, ◌-◌}
-use mathlib.Core.Path.{◌≡◌, refl, ap, ◌∙◌}
-use mathlib.Core.List.{List, ◌++◌}
+use Prim.Native.Nat.{ℕ, ◌≤◌, ◌<◌}
+use mathlib.Core.Path.{refl, ap, ◌∙◌}
+use mathlib.Core.List.{List}
 use native.Mathlib.Omega.{arith}
 use borrow.Author.Fill.{fill_more}
-use lib.ListN.{length, drop, set, replicate, length-set}
+use lib.ListN.{length, set, length-set}
 use Rattle.zeros.proofs.Filling.{fill_end}
 use Rattle.zeros.proofs.clear.Goals as goal
 

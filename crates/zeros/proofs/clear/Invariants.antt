@@ -1,11 +1,8 @@
 -- `zeros::clear` meets its contract. The invariant: i zeros, and the rest of d as it was. Assumes nothing.
-use Prim.Native.Nat.{ℕ, ◌≤◌, ◌<◌, ◌-◌}
-use mathlib.Core.Path.{◌≡◌, refl, ap, ◌∙◌}
-use mathlib.Core.List.{List, ◌++◌}
-use native.Mathlib.Omega.{arith}
-use borrow.Author.Fill.{fill_more}
-use lib.ListN.{length, drop, set, replicate, length-set}
-use Rattle.zeros.proofs.Filling.{fill_end}
+use Prim.Native.Nat.{◌≤◌, ◌-◌}
+use mathlib.Core.Path.{◌≡◌}
+use mathlib.Core.List.{◌++◌}
+use lib.ListN.{length, drop, replicate}
 use Rattle.zeros.proofs.clear.Given as goal
 
 abbrev pub invariant-loop-at : goal.invariant-loop-at

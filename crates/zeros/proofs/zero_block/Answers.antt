@@ -1,11 +1,6 @@
 -- `zeros::zero_block` meets its contract: the OR so far and what is left to look at decide the answer. Assumes nothing.
-use Prim.Native.Nat.{◌≤◌, ◌-◌}
-use mathlib.Core.Path.{◌≡◌, refl, sym, ◌∙◌}
-use mathlib.Core.Bool.{◌&&◌}
+use mathlib.Core.Path.{refl, sym, ◌∙◌}
 use native.Mathlib.Omega.{arith}
-use lib.Dec.{eqb}
-use lib.ListN.{length, drop}
-use Rattle.profile.specs.Bytes.{all_zero}
 use Rattle.zeros.proofs.ZeroBytes.{or_pass, or_end}
 use Rattle.zeros.proofs.zero_block.Goals as goal
 

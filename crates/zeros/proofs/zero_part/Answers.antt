@@ -1,12 +1,7 @@
 -- `zeros::zero_part` meets its contract. The invariant: what is left to look at decides the answer. Assumes nothing.
-use mathlib.Core.Path.{◌≡◌, refl, sym, ◌∙◌}
-use Prim.Native.Nat.{◌-◌}
+use mathlib.Core.Path.{refl, sym, ◌∙◌}
 use native.Mathlib.Omega.{arith}
-use borrow.Author.Tests.{not-true, not-false}
-use lib.ListN.{length}
-use Rattle.profile.specs.Bytes.{part, all_zero}
 use Rattle.zeros.proofs.ZeroBytes.{zero_pass, zero_stop, zero_last}
-use borrow.Author.Rules.{rules}
 use Rattle.zeros.proofs.zero_part.Goals as goal
 
 pub loop-rest-init : goal.loop-rest-init

@@ -1,12 +1,8 @@
 -- `zeros::zero_part` meets its contract. The invariant: what is left to look at decides the answer. Assumes nothing.
-use mathlib.Core.Path.{◌≡◌, refl, sym, ◌∙◌}
+use mathlib.Core.Path.{◌≡◌}
 use Prim.Native.Nat.{◌-◌}
-use native.Mathlib.Omega.{arith}
-use borrow.Author.Tests.{not-true, not-false}
 use lib.ListN.{length}
 use Rattle.profile.specs.Bytes.{part, all_zero}
-use Rattle.zeros.proofs.ZeroBytes.{zero_pass, zero_stop, zero_last}
-use borrow.Author.Rules.{rules}
 use Rattle.zeros.proofs.zero_part.Given as goal
 
 abbrev pub invariant-loop-rest : goal.invariant-loop-rest

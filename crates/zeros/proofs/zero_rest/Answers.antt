@@ -1,11 +1,9 @@
 -- `zeros::zero_rest` meets its contract. The invariant: what is left to look at decides the answer. Assumes nothing.
-use mathlib.Core.Path.{◌≡◌, refl, sym, ◌∙◌}
+use mathlib.Core.Path.{sym, ◌∙◌}
 use Prim.Native.Nat.{◌-◌}
 use native.Mathlib.Omega.{arith}
-use borrow.Author.Tests.{not-true, not-false}
-use borrow.Author.Rules.{rules}
 use lib.ListN.{length}
-use Rattle.zeros.proofs.ZeroBytes.{Left, all_left, less_left, last_decides, zero_stop, zero_last}
+use Rattle.zeros.proofs.ZeroBytes.{all_left, less_left, last_decides, zero_stop, zero_last}
 use Rattle.zeros.proofs.zero_rest.Goals as goal
 
 pub loop-rest-init : goal.loop-rest-init

@@ -1,11 +1,6 @@
 -- `zeros::zero_rest` meets its contract. The invariant: what is left to look at decides the answer. Assumes nothing.
-use mathlib.Core.Path.{◌≡◌, refl, sym, ◌∙◌}
-use Prim.Native.Nat.{◌-◌}
-use native.Mathlib.Omega.{arith}
-use borrow.Author.Tests.{not-true, not-false}
-use borrow.Author.Rules.{rules}
 use lib.ListN.{length}
-use Rattle.zeros.proofs.ZeroBytes.{Left, all_left, less_left, last_decides, zero_stop, zero_last}
+use Rattle.zeros.proofs.ZeroBytes.{Left}
 use Rattle.zeros.proofs.zero_rest.Given as goal
 
 abbrev pub invariant-loop-rest : goal.invariant-loop-rest

@@ -1,6 +1,5 @@
 -- `cavernlull::numbers::numbers_of` meets its contract, case by case of the answer. Assumes nothing.
 use mathlib.Core.Path.{sym, ap, ◌∙◌}
-use borrow.Author.Rules.{rules}
 use Rattle.cavernlull.specs.Numbers.{numbers}
 use Rattle.cavernlull.proofs.numbers.numbers_of.Goals as goal
 

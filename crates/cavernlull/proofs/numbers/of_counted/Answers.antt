@@ -1,5 +1,4 @@
 -- `cavernlull::numbers::of_counted` meets its contract: the count by its number and its bit. Assumes nothing.
-use borrow.Author.Rules.{rules}
 use Rattle.cavernlull.proofs.numbers.of_counted.Goals as goal
 
 pub returns : goal.returns

@@ -4,7 +4,6 @@ use mathlib.Core.Path.{◌≡◌, refl, ap}
 use mathlib.Core.List.{[], ◌∷◌}
 use mathlib.Core.Bool.{Bool, true, false, cond}
 use mir.Val.{bool_byte}
-use borrow.Author.Rules.{rules}
 use Rattle.cavernlull.proofs.numbers.of_handles.Goals as goal
 
 as_number : (t : Bool) → bool_byte t ≡ cond t 1 0

@@ -1,5 +1,4 @@
 -- `changes::fields::put_content` meets its contract: the two parts, one after the other. Assumes nothing.
-use borrow.Author.Rules.{rules}
 use Rattle.changes.proofs.fields.put_content.Goals as goal
 
 pub returns : goal.returns

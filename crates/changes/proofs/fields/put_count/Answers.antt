@@ -1,5 +1,4 @@
 -- `changes::fields::put_count` meets its contract: the number is the count's. Assumes nothing.
-use borrow.Author.Rules.{rules}
 use Rattle.changes.proofs.fields.put_count.Goals as goal
 
 pub returns : goal.returns

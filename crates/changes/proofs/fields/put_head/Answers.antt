@@ -5,7 +5,6 @@ use Prim.Native.Nat.{ℕ}
 use native.Mathlib.Omega.{arith}
 use Rattle.buffers.specs.Over.{over_at}
 use Rattle.changes.proofs.OverFields.{over_byte}
-use borrow.Author.Rules.{rules}
 use Rattle.changes.proofs.fields.put_head.Goals as goal
 
 pub returns : goal.returns

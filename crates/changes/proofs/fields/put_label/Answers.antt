@@ -1,5 +1,4 @@
 -- `changes::fields::put_label` meets its contract: byte 0, and then the handle. Assumes nothing.
-use borrow.Author.Rules.{rules}
 use Rattle.changes.proofs.fields.put_label.Goals as goal
 
 pub returns : goal.returns

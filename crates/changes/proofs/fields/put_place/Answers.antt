@@ -4,7 +4,6 @@ use mathlib.Core.List.{[], ◌∷◌}
 use Prim.Native.Nat.{ℕ}
 use Rattle.buffers.specs.Over.{over_at}
 use Rattle.changes.proofs.OverFields.{over_byte}
-use borrow.Author.Rules.{rules}
 use Rattle.changes.proofs.fields.put_place.Goals as goal
 
 pub returns : goal.returns

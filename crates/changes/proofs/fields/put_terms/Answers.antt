@@ -1,5 +1,4 @@
 -- `changes::fields::put_terms` meets its contract: key, count and length, one after the other. Assumes nothing.
-use borrow.Author.Rules.{rules}
 use Rattle.changes.proofs.fields.put_terms.Goals as goal
 
 pub returns : goal.returns

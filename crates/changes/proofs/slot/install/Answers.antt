@@ -1,6 +1,4 @@
 -- `changes::slot::install` meets its contract: the fields of the right are written one after another. Assumes nothing.
-use mathlib.Core.Path.{◌≡◌}
-use lib.ListN.{length}
 use Rattle.octets.proofs.ByteBounds.{below_256}
 use Rattle.changes.proofs.SlotBytes.{given_stored}
 use borrow.Author.Rules.{rules}

@@ -1,6 +1,5 @@
 -- `decisions::decision::slot_under` meets its contract, by what the look_up answers and the place it found. Assumes nothing.
 use mathlib.Core.Path.{sym, ap, ◌∙◌}
-use borrow.Author.Rules.{rules}
 use Rattle.decisions.specs.Decisions.{decided}
 use Rattle.decisions.proofs.Deciding.{taken_decided, other_decided}
 use Rattle.decisions.proofs.decision.slot_under.Goals as goal

@@ -1,6 +1,5 @@
 -- `decisions::lending::slot_to_lend` meets its contract, by what was decided before and whether the new handle is in use. Assumes nothing.
 use mathlib.Core.Path.{sym, ◌∙◌}
-use borrow.Author.Rules.{rules}
 use Rattle.decisions.proofs.Deciding.{refused_before, used_refused, unused_decided}
 use Rattle.decisions.proofs.lending.slot_to_lend.Goals as goal
 

@@ -1,6 +1,5 @@
 -- `hashes::reader::nth_hash` meets its contract: `hash_at` counts in hashes of 20 bytes. Assumes nothing.
 use Rattle.hashes.specs.Readers.{hash_at}
-use borrow.Author.Rules.{rules}
 use Rattle.hashes.proofs.reader.nth_hash.Goals as goal
 
 pub returns : goal.returns

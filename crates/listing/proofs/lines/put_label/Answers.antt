@@ -3,7 +3,6 @@ use native.Mathlib.Omega.{arith}
 use Rattle.slots.specs.Places.{place_number}
 use Rattle.texts.proofs.Digits.{number_few}
 use Rattle.listing.proofs.SlotLines.{label_there}
-use borrow.Author.Rules.{rules}
 use Rattle.listing.proofs.lines.put_label.Goals as goal
 
 pub put_number-after_index-requires : goal.put_number-after_index-requires

@@ -2,7 +2,6 @@
 use native.Mathlib.Omega.{arith}
 use Rattle.slots.specs.Places.{place_number}
 use Rattle.listing.proofs.SlotLines.{label_most, line_there}
-use borrow.Author.Rules.{rules}
 use Rattle.listing.proofs.lines.put_line.Goals as goal
 
 pub put_sizes-requires : goal.put_sizes-requires

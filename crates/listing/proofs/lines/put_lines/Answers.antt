@@ -1,9 +1,8 @@
 -- `listing::lines::put_lines` meets its contract. The invariant: the lines of the slots passed stand in the buffer. Assumes nothing.
-use Prim.Native.Nat.{◌≤◌, ◌-◌}
 use native.Mathlib.Omega.{arith}
 use borrow.Author.Rules.{rules}
 use Rattle.texts.proofs.Writing.{wrote_length}
-use Rattle.listing.proofs.SlotLines.{Passed, passed_none, passed_all, line_asks, pass_next}
+use Rattle.listing.proofs.SlotLines.{passed_none, passed_all, line_asks, pass_next}
 use Rattle.listing.proofs.lines.put_lines.Goals as goal
 
 pub loop-i-init : goal.loop-i-init
@@ -17,12 +16,11 @@ put_line-next-requires c = let s = c.slot_at in
     (omega arith, s.ensures.1, asks.1, asks.2, asks.3)
 
 pub loop-i-preserved : goal.loop-i-preserved
-loop-i-preserved c = let s = c.slot_at in
-    (
-      omega arith,
-      pass_next c.args.table.now c.args.out.now c.args.at c.requires.0 c.requires.1 c.loop-i.i c.loop-i.next c.loop-i.out
-          c.loop-i-test.true c.loop-i.invariant.1 s.result.now s.ensures.0 c.put_line-next.new.out c.put_line-next.result c.put_line-next.ensures,
-    )
+loop-i-preserved c = let s = c.slot_at in (
+  omega arith,
+  pass_next c.args.table.now c.args.out.now c.args.at c.requires.0 c.requires.1 c.loop-i.i c.loop-i.next c.loop-i.out
+      c.loop-i-test.true c.loop-i.invariant.1 s.result.now s.ensures.0 c.put_line-next.new.out c.put_line-next.result c.put_line-next.ensures,
+)
 
 pub shape_of-out : goal.shape_of-out
 shape_of-out c = wrote_length c.loop-i.invariant.1.wrote

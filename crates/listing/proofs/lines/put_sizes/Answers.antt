@@ -1,8 +1,5 @@
 -- `listing::lines::put_sizes` meets its contract: the three numbers, each after a space, and the newline. Assumes nothing.
-use Prim.Native.Nat.{◌≤◌}
 use native.Mathlib.Omega.{arith}
-use lib.ListN.{length}
-use Rattle.listing.specs.Written.{field}
 use Rattle.listing.proofs.Writing.{field_most, field_few}
 use Rattle.listing.proofs.SlotLines.{sizes_there}
 use borrow.Author.Rules.{rules}

@@ -1,7 +1,6 @@
 -- `listing::put::put_field` meets its contract: a space, and the number after it. Assumes nothing.
 use native.Mathlib.Omega.{arith}
 use Rattle.listing.proofs.Writing.{field_there, field_length}
-use borrow.Author.Rules.{rules}
 use Rattle.listing.proofs.put.put_field.Goals as goal
 
 pub put_word-next-requires : goal.put_word-next-requires

@@ -1,6 +1,5 @@
 -- `listing::put::put_place` meets its contract, place by place. Assumes nothing.
 use Rattle.listing.specs.Written.{placed}
-use borrow.Author.Rules.{rules}
 use Rattle.listing.proofs.put.put_place.Goals as goal
 
 pub returns-in-Empty : goal.returns-in-Empty

@@ -1,12 +1,7 @@
 -- `octets::arrays::copy_from` meets its contract. The invariant: i bytes of the part, and the rest of d as it was.
 -- Assumes nothing.
-use mathlib.Core.Path.{◌≡◌}
-use mathlib.Core.List.{◌++◌}
-use Prim.Native.Nat.{◌≤◌, ◌-◌}
 use native.Mathlib.Omega.{arith}
 use borrow.Author.Rules.{rules}
-use lib.ListN.{length, drop}
-use Rattle.profile.specs.Bytes.{part}
 use Rattle.octets.proofs.Copying.{copy_more, copy_all}
 use Rattle.octets.proofs.arrays.copy_from.Goals as goal
 

@@ -3,11 +3,8 @@
 use mathlib.Core.Path.{◌≡◌}
 use mathlib.Core.List.{◌++◌}
 use Prim.Native.Nat.{◌≤◌, ◌-◌}
-use native.Mathlib.Omega.{arith}
-use borrow.Author.Rules.{rules}
 use lib.ListN.{length, drop}
 use Rattle.profile.specs.Bytes.{part}
-use Rattle.octets.proofs.Copying.{copy_more, copy_all}
 use Rattle.octets.proofs.arrays.copy_from.Given as goal
 
 abbrev pub invariant-loop-i : goal.invariant-loop-i

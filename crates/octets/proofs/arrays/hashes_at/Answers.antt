@@ -1,10 +1,8 @@
 -- `octets::arrays::hashes_at` meets its contract. The invariant: the first i arrays are the first i pieces, and
 -- the rest are zero. Assumes nothing.
 use mathlib.Core.Path.{◌≡◌}
-use Prim.Native.Nat.{◌≤◌, ◌-◌}
 use native.Mathlib.Omega.{arith}
-use lib.ListN.{length, take, drop, replicate}
-use Rattle.profile.specs.Bytes.{pieces, zeros}
+use Rattle.profile.specs.Bytes.{zeros}
 use Rattle.octets.proofs.Copying.{pieces_more, rest_more, pieces_all}
 use borrow.Author.Rules.{rules}
 use Rattle.octets.proofs.arrays.hashes_at.Goals as goal
@@ -15,11 +13,11 @@ loop-i-init c = search rules
 
 pub loop-i-preserved : goal.loop-i-preserved
 loop-i-preserved c = let l = c.loop-i in (
-      search rules,
-      search rules,
-      rw c.hash_at.ensures (pieces_more 20 l.q l.i _ _ (omega arith) l.invariant.2),
-      rest_more 8 (zeros 20) l.q l.i _ l.invariant.3,
-    )
+  search rules,
+  search rules,
+  rw c.hash_at.ensures (pieces_more 20 l.q l.i _ _ (omega arith) l.invariant.2),
+  rest_more 8 (zeros 20) l.q l.i _ l.invariant.3,
+)
 
 pub returns : goal.returns
 returns c = let l = c.loop-i in

@@ -2,11 +2,8 @@
 -- the rest are zero. Assumes nothing.
 use mathlib.Core.Path.{◌≡◌}
 use Prim.Native.Nat.{◌≤◌, ◌-◌}
-use native.Mathlib.Omega.{arith}
 use lib.ListN.{length, take, drop, replicate}
 use Rattle.profile.specs.Bytes.{pieces, zeros}
-use Rattle.octets.proofs.Copying.{pieces_more, rest_more, pieces_all}
-use borrow.Author.Rules.{rules}
 use Rattle.octets.proofs.arrays.hashes_at.Given as goal
 
 abbrev pub invariant-loop-i : goal.invariant-loop-i

@@ -1,7 +1,6 @@
 -- `octets::compare::same_from` meets its contract: the last byte, and then those before it. Assumes nothing.
 use mathlib.Core.Path.{sym}
 use native.Mathlib.Omega.{arith}
-use borrow.Author.Rules.{rules}
 use Rattle.octets.proofs.Comparing.{whole_none, whole_differs, whole_last}
 use Rattle.octets.proofs.compare.same_from.Goals as goal
 

@@ -1,10 +1,8 @@
 -- `octets::compare::same_parts` meets its contract. The invariant: the first i bytes agree. Assumes nothing.
-use mathlib.Core.Path.{◌≡◌, sym}
-use Prim.Native.Nat.{ℕ, ◌+◌, ◌≤◌, ◌<◌, ◌-◌}
+use mathlib.Core.Path.{sym}
 use native.Mathlib.Omega.{arith}
 use borrow.Author.Rules.{rules}
 use borrow.Author.Count.{below_more}
-use lib.ListN.{get_or}
 use Rattle.octets.proofs.Comparing.{parts_same, parts_differ}
 use Rattle.octets.proofs.compare.same_parts.Goals as goal
 

@@ -1,11 +1,7 @@
 -- `octets::compare::same_parts` meets its contract. The invariant: the first i bytes agree. Assumes nothing.
-use mathlib.Core.Path.{◌≡◌, sym}
+use mathlib.Core.Path.{◌≡◌}
 use Prim.Native.Nat.{ℕ, ◌+◌, ◌≤◌, ◌<◌, ◌-◌}
-use native.Mathlib.Omega.{arith}
-use borrow.Author.Rules.{rules}
-use borrow.Author.Count.{below_more}
 use lib.ListN.{get_or}
-use Rattle.octets.proofs.Comparing.{parts_same, parts_differ}
 use Rattle.octets.proofs.compare.same_parts.Given as goal
 
 abbrev pub invariant-loop-i : goal.invariant-loop-i

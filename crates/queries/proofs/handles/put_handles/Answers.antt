@@ -1,13 +1,11 @@
 -- `queries::handles::put_handles` meets its contract. The invariant: the list over the slots passed is counted, and its first handles are in the reply. Assumes nothing.
-use Prim.Native.Nat.{◌≤◌, ◌-◌}
 use mathlib.Core.Path.{◌≡◌, sym}
-use mathlib.Core.Logic.{⊎_elim}
 use native.Mathlib.Omega.{arith}
-use lib.ListN.{length, take}
+use lib.ListN.{length}
 use lib.Seq.{length-take-le}
 use borrow.Author.Rules.{rules}
 use Rattle.profile.specs.Sizes.{most_hashes}
-use Rattle.queries.proofs.Growth.{few_in_slot, Passed, passed_none, passed_all, room_next, pass_other, pass_listed}
+use Rattle.queries.proofs.Growth.{few_in_slot, passed_none, passed_all, room_next, pass_other, pass_listed}
 use Rattle.queries.proofs.handles.put_handles.Goals.{then-is_listed, else-is_listed}
 use Rattle.queries.proofs.handles.put_handles.Goals as goal
 
@@ -33,10 +31,10 @@ loop-i-preserved c =
     let passed = c.loop-i-test.true in (
       omega arith,
       elim c.if-is_listed.branch [
-        then-is_listed w ↦ rw (w.found-is, w.reply-is)
+        | then-is_listed w ↦ rw (w.found-is, w.reply-is)
             (pass_listed _ _ _ _ c.requires.0 v.i v.found v.reply passed v.invariant.1 s.result.now s.ensures.0 s.ensures.1
             (rw w.if-is_listed.true at listed) w.put_next.new.reply w.put_next.auto.reply w.put_next.ensures)
-      | else-is_listed w ↦ rw (w.found-is, w.reply-is)
+        | else-is_listed w ↦ rw (w.found-is, w.reply-is)
             (pass_other _ _ _ _ c.requires.0 v.i v.found v.reply passed v.invariant.1 s.result.now s.ensures.0 (rw w.if-is_listed.false at listed))
       ],
     )

@@ -1,13 +1,7 @@
 -- `queries::handles::put_handles` meets its contract. The invariant: the list over the slots passed is counted, and its first handles are in the reply. Assumes nothing.
 use Prim.Native.Nat.{◌≤◌, ◌-◌}
-use mathlib.Core.Path.{◌≡◌, sym}
-use mathlib.Core.Logic.{⊎_elim}
-use native.Mathlib.Omega.{arith}
-use lib.ListN.{length, take}
-use lib.Seq.{length-take-le}
-use borrow.Author.Rules.{rules}
-use Rattle.profile.specs.Sizes.{most_hashes}
-use Rattle.queries.proofs.Growth.{few_in_slot, Passed, passed_none, passed_all, room_next, pass_other, pass_listed}
+use lib.ListN.{take}
+use Rattle.queries.proofs.Growth.{Passed}
 use Rattle.queries.proofs.handles.put_handles.Given as goal
 
 abbrev pub invariant-loop-i : goal.invariant-loop-i

@@ -1,6 +1,5 @@
 -- `queries::handles::put_next` meets its contract: the handle is put, or the buffer stays. Assumes nothing.
 use borrow.Author.Tests.{lt-ltb, le-ltb}
-use borrow.Author.Rules.{rules}
 use Rattle.queries.proofs.handles.put_next.Goals as goal
 
 pub returns-then-k-most : goal.returns-then-k-most

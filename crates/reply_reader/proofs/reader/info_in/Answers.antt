@@ -1,6 +1,5 @@
 -- `reply_reader::reader::info_in` meets its contract. Assumes nothing.
 use Rattle.reply_reader.specs.Told.{info_in}
-use borrow.Author.Rules.{rules}
 use Rattle.reply_reader.proofs.reader.info_in.Goals as goal
 
 pub returns : goal.returns

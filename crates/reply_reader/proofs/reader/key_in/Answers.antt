@@ -1,6 +1,5 @@
 -- `reply_reader::reader::key_in` meets its contract. Assumes nothing.
 use Rattle.reply_reader.specs.Told.{key_in}
-use borrow.Author.Rules.{rules}
 use Rattle.reply_reader.proofs.reader.key_in.Goals as goal
 
 pub returns : goal.returns

@@ -1,6 +1,5 @@
 -- `reply_reader::reader::list_in` meets its contract. Assumes nothing.
 use Rattle.reply_reader.specs.Told.{list_in}
-use borrow.Author.Rules.{rules}
 use Rattle.reply_reader.proofs.reader.list_in.Goals as goal
 
 pub returns : goal.returns

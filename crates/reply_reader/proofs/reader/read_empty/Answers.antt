@@ -2,7 +2,6 @@
 use mathlib.Core.Path.{ap}
 use mathlib.Core.Bool.{not}
 use Rattle.reply_reader.proofs.Tellings.{not_empty, is_empty}
-use borrow.Author.Rules.{rules}
 use Rattle.reply_reader.proofs.reader.read_empty.Goals as goal
 
 pub returns-then-not-no_body : goal.returns-then-not-no_body

@@ -5,7 +5,6 @@ use native.Mathlib.Omega.{arith}
 use Rattle.profile.specs.Frame.{info_kind}
 use Rattle.reply_reader.proofs.Shapes.{info_room}
 use Rattle.reply_reader.proofs.Tellings.{passed, not_shaped, is_shaped}
-use borrow.Author.Rules.{rules}
 use Rattle.reply_reader.proofs.reader.read_info.Goals as goal
 
 pub returns-then-not-is_info : goal.returns-then-not-is_info

@@ -5,7 +5,6 @@ use native.Mathlib.Omega.{arith}
 use Rattle.profile.specs.Frame.{rek_kind}
 use Rattle.reply_reader.proofs.Shapes.{key_room}
 use Rattle.reply_reader.proofs.Tellings.{passed, not_shaped, is_shaped}
-use borrow.Author.Rules.{rules}
 use Rattle.reply_reader.proofs.reader.read_key.Goals as goal
 
 pub returns-then-not-is_key : goal.returns-then-not-is_key

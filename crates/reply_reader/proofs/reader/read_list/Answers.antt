@@ -5,7 +5,6 @@ use native.Mathlib.Omega.{arith}
 use Rattle.profile.specs.Frame.{list_kind}
 use Rattle.reply_reader.proofs.Shapes.{list_room}
 use Rattle.reply_reader.proofs.Tellings.{passed, not_shaped, is_shaped}
-use borrow.Author.Rules.{rules}
 use Rattle.reply_reader.proofs.reader.read_list.Goals as goal
 
 pub returns-then-not-is_list : goal.returns-then-not-is_list

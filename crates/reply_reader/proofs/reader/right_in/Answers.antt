@@ -1,6 +1,5 @@
 -- `reply_reader::reader::right_in` meets its contract. Assumes nothing.
 use Rattle.reply_reader.specs.Told.{right_in}
-use borrow.Author.Rules.{rules}
 use Rattle.reply_reader.proofs.reader.right_in.Goals as goal
 
 pub returns : goal.returns

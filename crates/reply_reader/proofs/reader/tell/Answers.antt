@@ -2,14 +2,8 @@
 use mathlib.Core.Path.{ap}
 use mathlib.Core.Bool.{not}
 use native.Mathlib.Omega.{arith}
-use mathlib.Core.Path.{◌≡◌}
-use Prim.Native.Nat.{◌≤◌}
-use lib.ListN.{length}
-use Rattle.profile.specs.Bytes.{Bytes}
-use Rattle.reply_reader.specs.Told.{told}
 use Rattle.reply_reader.proofs.Shapes.{frame_long}
-use Rattle.reply_reader.proofs.Tellings.{passed, told_rest, told_no_frame, told_no_bit, told_rest_lem, told_no_status, told_success_lem, told_failed}
-use borrow.Author.Rules.{rules}
+use Rattle.reply_reader.proofs.Tellings.{passed, told_no_frame, told_no_bit, told_rest_lem, told_no_status, told_success_lem, told_failed}
 use Rattle.reply_reader.proofs.reader.tell.Goals as goal
 
 pub returns-then-not-is_reply : goal.returns-then-not-is_reply

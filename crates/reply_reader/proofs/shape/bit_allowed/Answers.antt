@@ -1,5 +1,4 @@
 -- `reply_reader::shape::bit_allowed` meets its contract. Assumes nothing.
-use borrow.Author.Rules.{rules}
 use Rattle.reply_reader.proofs.shape.bit_allowed.Goals as goal
 
 pub returns : goal.returns

@@ -1,6 +1,5 @@
 -- `reply_reader::shape::count_at` meets its contract. Assumes nothing.
 use Rattle.reply_reader.proofs.Shapes.{count_read}
-use borrow.Author.Rules.{rules}
 use Rattle.reply_reader.proofs.shape.count_at.Goals as goal
 
 pub returns : goal.returns

@@ -1,6 +1,5 @@
 -- `reply_reader::shape::is_info` meets its contract. Assumes nothing.
 use Rattle.reply_reader.proofs.Shapes.{info_short, info_tests}
-use borrow.Author.Rules.{rules}
 use Rattle.reply_reader.proofs.shape.is_info.Goals as goal
 
 pub returns-then-f-lt6 : goal.returns-then-f-lt6

@@ -1,6 +1,5 @@
 -- `reply_reader::shape::is_list` meets its contract. Assumes nothing.
 use Rattle.reply_reader.proofs.Shapes.{list_short, list_tests}
-use borrow.Author.Rules.{rules}
 use Rattle.reply_reader.proofs.shape.is_list.Goals as goal
 
 pub returns-then-f-lt5 : goal.returns-then-f-lt5

@@ -1,7 +1,6 @@
 -- `reply_reader::shape::is_reply` meets its contract. Assumes nothing.
 use mathlib.Core.Path.{◌∙◌}
 use Rattle.reply_reader.proofs.Shapes.{frame_short, frame_tests}
-use borrow.Author.Rules.{rules}
 use Rattle.reply_reader.proofs.shape.is_reply.Goals as goal
 
 pub returns-then-f-lt4 : goal.returns-then-f-lt4

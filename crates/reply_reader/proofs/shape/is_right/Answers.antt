@@ -1,7 +1,6 @@
 -- `reply_reader::shape::is_right` meets its contract. Assumes nothing.
 use mathlib.Core.Path.{◌∙◌}
 use Rattle.reply_reader.proofs.Shapes.{right_short, right_tests}
-use borrow.Author.Rules.{rules}
 use Rattle.reply_reader.proofs.shape.is_right.Goals as goal
 
 pub returns-then-f-lt24 : goal.returns-then-f-lt24

@@ -1,6 +1,5 @@
 -- `reply_reader::shape::says_count` meets its contract. Assumes nothing.
 use Rattle.reply_reader.proofs.Shapes.{says_read}
-use borrow.Author.Rules.{rules}
 use Rattle.reply_reader.proofs.shape.says_count.Goals as goal
 
 pub returns : goal.returns

@@ -1,6 +1,5 @@
 -- `reply_writer::writer::count_in` meets its contract. Assumes nothing.
 use Rattle.reply_writer.proofs.Frames.{count_read}
-use borrow.Author.Rules.{rules}
 use Rattle.reply_writer.proofs.writer.count_in.Goals as goal
 
 pub returns : goal.returns

@@ -2,7 +2,6 @@
 use mathlib.Core.Path.{ap, ◌∙◌}
 use Rattle.profile.specs.Bytes.{Bytes}
 use Rattle.buffers.specs.Over.{over_at}
-use borrow.Author.Rules.{rules}
 use Rattle.reply_writer.proofs.writer.put_head.Goals as goal
 
 pub returns : goal.returns

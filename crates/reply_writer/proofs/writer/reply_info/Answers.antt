@@ -1,6 +1,5 @@
 -- `reply_writer::writer::reply_info` meets its contract: a head, the count and the payload. Assumes nothing.
 use Rattle.reply_writer.proofs.Frames.{info_steps}
-use borrow.Author.Rules.{rules}
 use Rattle.reply_writer.proofs.writer.reply_info.Goals as goal
 
 pub returns : goal.returns

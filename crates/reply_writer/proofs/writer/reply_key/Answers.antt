@@ -1,6 +1,5 @@
 -- `reply_writer::writer::reply_key` meets its contract: a head, and the key. Assumes nothing.
 use Rattle.reply_writer.proofs.Frames.{key_steps}
-use borrow.Author.Rules.{rules}
 use Rattle.reply_writer.proofs.writer.reply_key.Goals as goal
 
 pub returns : goal.returns

@@ -1,6 +1,5 @@
 -- `reply_writer::writer::reply_right` meets its contract: a head and the four fields. Assumes nothing.
 use Rattle.reply_writer.proofs.Frames.{right_steps}
-use borrow.Author.Rules.{rules}
 use Rattle.reply_writer.proofs.writer.reply_right.Goals as goal
 
 pub returns : goal.returns

@@ -1,7 +1,6 @@
 -- `reply_writer::writer::reply_status` meets its contract: a head alone. Assumes nothing.
 use mathlib.Core.Path.{◌∙◌}
 use Rattle.reply_writer.proofs.Frames.{head_written}
-use borrow.Author.Rules.{rules}
 use Rattle.reply_writer.proofs.writer.reply_status.Goals as goal
 
 pub returns : goal.returns

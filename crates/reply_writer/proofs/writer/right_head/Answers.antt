@@ -1,6 +1,5 @@
 -- `reply_writer::writer::right_head` meets its contract. Assumes nothing.
 use Rattle.reply_writer.proofs.Frames.{terms_are}
-use borrow.Author.Rules.{rules}
 use Rattle.reply_writer.proofs.writer.right_head.Goals as goal
 
 pub returns : goal.returns

@@ -2,7 +2,6 @@
 use native.Mathlib.Omega.{arith}
 use Rattle.texts.proofs.Digits.{number_few}
 use Rattle.reports.proofs.FindingLines.{is_cleared}
-use borrow.Author.Rules.{rules}
 use Rattle.reports.proofs.lines.put_cleared.Goals as goal
 
 pub put_numbered-requires : goal.put_numbered-requires

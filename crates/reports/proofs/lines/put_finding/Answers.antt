@@ -1,6 +1,5 @@
 -- `reports::lines::put_finding` meets its contract, byte by byte. Assumes nothing.
 use Rattle.reports.proofs.FindingLines.{is_kept, is_damaged, is_repeated}
-use borrow.Author.Rules.{rules}
 use Rattle.reports.proofs.lines.put_finding.Goals as goal
 
 pub returns-then-found-eq-KEPT : goal.returns-then-found-eq-KEPT

@@ -2,7 +2,6 @@
 use native.Mathlib.Omega.{arith}
 use Rattle.texts.proofs.Digits.{number_few}
 use Rattle.reports.proofs.FindingLines.{word_most, line_there}
-use borrow.Author.Rules.{rules}
 use Rattle.reports.proofs.lines.put_line.Goals as goal
 
 pub put_number-after_index-requires : goal.put_number-after_index-requires

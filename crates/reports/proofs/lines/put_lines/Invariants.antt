@@ -1,10 +1,6 @@
 -- `reports::lines::put_lines` meets its contract. The invariant: the lines of the slots passed stand in the buffer. Assumes nothing.
 use Prim.Native.Nat.{◌≤◌, ◌-◌}
-use mathlib.Core.Path.{◌≡◌}
-use native.Mathlib.Omega.{arith}
-use Rattle.texts.proofs.Writing.{wrote_length}
-use Rattle.reports.proofs.FindingLines.{Passed, passed_none, pass_next}
-use borrow.Author.Rules.{rules}
+use Rattle.reports.proofs.FindingLines.{Passed}
 use Rattle.reports.proofs.lines.put_lines.Given as goal
 
 abbrev pub invariant-loop-i : goal.invariant-loop-i

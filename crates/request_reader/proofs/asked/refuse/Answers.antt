@@ -1,6 +1,5 @@
 -- `request_reader::asked::refuse` meets its contract: the record of what was read. Assumes nothing.
 use Rattle.request_reader.specs.Asking.{refusal}
-use borrow.Author.Rules.{rules}
 use Rattle.request_reader.proofs.asked.refuse.Goals as goal
 
 pub returns : goal.returns

@@ -1,6 +1,5 @@
 -- `request_reader::asked::with_right` meets its contract: the record of what was read. Assumes nothing.
 use Rattle.request_reader.specs.Asking.{installation}
-use borrow.Author.Rules.{rules}
 use Rattle.request_reader.proofs.asked.with_right.Goals as goal
 
 pub returns : goal.returns

@@ -1,6 +1,5 @@
 -- `request_reader::asked::with_two` meets its contract: the record of what was read. Assumes nothing.
 use Rattle.request_reader.specs.Asking.{two_handles}
-use borrow.Author.Rules.{rules}
 use Rattle.request_reader.proofs.asked.with_two.Goals as goal
 
 pub returns : goal.returns

@@ -3,7 +3,6 @@ use mathlib.Core.Bool.{not}
 use mathlib.Core.Path.{ap}
 use Rattle.request_reader.proofs.Choices.{no_count_said, count_said}
 use Rattle.request_reader.specs.Asking.{of_enable}
-use borrow.Author.Rules.{rules}
 use Rattle.request_reader.proofs.reader.enable_fields.Goals as goal
 
 pub returns-then-not-count_holds : goal.returns-then-not-count_holds

@@ -3,7 +3,6 @@ use mathlib.Core.Bool.{not}
 use mathlib.Core.Path.{ap, ◌∙◌}
 use Rattle.request_reader.proofs.Choices.{was_false, was_true}
 use Rattle.request_reader.proofs.InstallTests.{hashes_out, zero_bit_set, no_payload, long_payload, installs}
-use borrow.Author.Rules.{rules}
 use Rattle.request_reader.proofs.reader.install_fields.Goals as goal
 
 pub returns-then-not-hashes_fit : goal.returns-then-not-hashes_fit

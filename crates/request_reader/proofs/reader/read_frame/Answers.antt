@@ -1,8 +1,6 @@
 -- `request_reader::reader::read_frame` meets its contract, test by test. Assumes nothing.
-use borrow.Author.Tests.{not-true, not-false}
 use Rattle.request_reader.specs.Asking.{asked}
 use Rattle.request_reader.proofs.Choices.{tests}
-use borrow.Author.Rules.{rules}
 use Rattle.request_reader.proofs.reader.read_frame.Goals as goal
 
 pub returns-then-f-lt4 : goal.returns-then-f-lt4

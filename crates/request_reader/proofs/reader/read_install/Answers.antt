@@ -1,6 +1,5 @@
 -- `request_reader::reader::read_install` meets its contract, test by test. Assumes nothing.
 use Rattle.request_reader.proofs.Choices.{tests}
-use borrow.Author.Rules.{rules}
 use Rattle.request_reader.proofs.reader.read_install.Goals as goal
 
 pub returns-then-n-lt30 : goal.returns-then-n-lt30

@@ -1,7 +1,6 @@
 -- `request_reader::reader::read_list` meets its contract, test by test. Assumes nothing.
 use Rattle.request_reader.proofs.Choices.{tests}
 use Rattle.request_reader.specs.Asking.{of_list}
-use borrow.Author.Rules.{rules}
 use Rattle.request_reader.proofs.reader.read_list.Goals as goal
 
 pub returns-then-n-lt3 : goal.returns-then-n-lt3

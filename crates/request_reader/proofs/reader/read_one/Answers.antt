@@ -1,6 +1,5 @@
 -- `request_reader::reader::read_one` meets its contract, test by test. Assumes nothing.
 use Rattle.request_reader.proofs.Choices.{tests}
-use borrow.Author.Rules.{rules}
 use Rattle.request_reader.proofs.reader.read_one.Goals as goal
 
 pub returns-then-n-size : goal.returns-then-n-size

@@ -1,6 +1,5 @@
 -- `request_reader::reader::read_request` meets its contract: the answer means what the profile reads. Assumes nothing.
 use Rattle.request_reader.proofs.Meaning.{answers}
-use borrow.Author.Rules.{rules}
 use Rattle.request_reader.proofs.reader.read_request.Goals as goal
 
 pub returns : goal.returns

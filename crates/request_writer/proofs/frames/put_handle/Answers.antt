@@ -1,6 +1,5 @@
 -- `request_writer::frames::put_handle` meets its contract: the handle stands after the head. Assumes nothing.
 use mathlib.Core.Path.{◌≡◌}
-use Prim.Native.Nat.{◌+◌, ◌≤◌}
 use native.Mathlib.Omega.{arith}
 use lib.ListN.{length}
 use Rattle.profile.specs.Sizes.{handle_size}

@@ -1,7 +1,4 @@
 -- `request_writer::frames::put_right` meets its contract: part after part. Assumes nothing.
-use mathlib.Core.Path.{◌≡◌}
-use lib.ListN.{length}
-use Rattle.profile.specs.Sizes.{handle_size, key_size}
 use Rattle.request_writer.proofs.FrameParts.{front_written}
 use borrow.Author.Rules.{rules}
 use Rattle.request_writer.proofs.frames.put_right.Goals as goal

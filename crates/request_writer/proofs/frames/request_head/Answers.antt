@@ -4,7 +4,6 @@ use mathlib.Core.Path.{ap, ◌∙◌}
 use mathlib.Core.List.{◌∷◌}
 use Rattle.profile.specs.Bytes.{Bytes, word_bytes}
 use Rattle.profile.specs.Frame.{frame_head}
-use borrow.Author.Rules.{rules}
 use Rattle.request_writer.proofs.frames.request_head.Goals as goal
 
 pub returns : goal.returns

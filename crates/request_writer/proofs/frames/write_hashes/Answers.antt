@@ -1,7 +1,6 @@
 -- `request_writer::frames::write_hashes` meets its contract: part after part. Assumes nothing.
 use native.Mathlib.Omega.{arith}
 use Rattle.request_writer.proofs.FrameParts.{list_short, list_whole}
-use borrow.Author.Rules.{rules}
 use Rattle.request_writer.proofs.frames.write_hashes.Goals as goal
 
 pub returns-then-out-size : goal.returns-then-out-size

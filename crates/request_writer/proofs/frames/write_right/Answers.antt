@@ -1,8 +1,5 @@
 -- `request_writer::frames::write_right` meets its contract: part after part. Assumes nothing.
-use mathlib.Core.Path.{◌≡◌}
 use native.Mathlib.Omega.{arith}
-use lib.ListN.{length}
-use Rattle.profile.specs.Sizes.{handle_size, key_size}
 use Rattle.request_writer.proofs.FrameParts.{right_short, right_whole}
 use borrow.Author.Rules.{rules}
 use Rattle.request_writer.proofs.frames.write_right.Goals as goal

@@ -1,15 +1,9 @@
 -- `request_writer::writer::write_kind` meets its contract, kind by kind. Assumes nothing.
-use mathlib.Core.Path.{◌≡◌, refl, ap}
-use mathlib.Core.Option.{some}
-use mathlib.Core.Bool.{true}
-use Prim.Native.Nat.{◌/◌, ◌%◌, ◌≤◌, ◌<◌}
+use mathlib.Core.Path.{refl, ap}
 use native.Mathlib.Omega.{arith}
-use lib.ListN.{length}
-use Rattle.profile.specs.Sizes.{hash_size, most_hashes}
-use Rattle.profile.specs.Slot.{count_holds}
-use Rattle.profile.specs.Frame.{Kind, setup_kind, install_kind, retrieve_kind, rek_kind, enable_kind, remove_kind, cancel_kind, list_kind, info_kind, kind_of, frame}
-use Rattle.profile.specs.Request.{Request, number_of, second_byte, write_body, write_request}
-use Rattle.profile.specs.Device.{Fields, whole_hashes, request_of, Written, put, write_kind}
+use Rattle.profile.specs.Frame.{setup_kind, install_kind, retrieve_kind, rek_kind, enable_kind, remove_kind, cancel_kind, list_kind, info_kind, kind_of}
+use Rattle.profile.specs.Request.{write_request}
+use Rattle.profile.specs.Device.{whole_hashes}
 use Rattle.request_fields.specs.Given.{fields_of, kind_allows}
 use Rattle.request_reader.proofs.Choices.{no_kind}
 use Rattle.request_fields.proofs.Allowed.{hashes_few, payload_short, install_says, enable_says}

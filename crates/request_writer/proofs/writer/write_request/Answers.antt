@@ -4,7 +4,6 @@ use mathlib.Core.Bool.{not}
 use Rattle.profile.specs.Device.{write}
 use Rattle.request_fields.specs.Given.{fields_of}
 use Rattle.request_writer.proofs.AllowedFrames.{fields_allowed, fields_refused}
-use borrow.Author.Rules.{rules}
 use Rattle.request_writer.proofs.writer.write_request.Goals as goal
 
 pub returns-then-not-allowed : goal.returns-then-not-allowed

@@ -3,9 +3,7 @@ use Prim.Native.Nat.{◌*◌}
 use mathlib.Core.Path.{sym, ◌∙◌}
 use native.Mathlib.Omega.{arith}
 use lib.Seq.{length-take-le}
-use borrow.Author.Tests.{not-true, not-false}
 use Rattle.salvage.proofs.Below.{alone, finds_damage, finds_none, finds_again, finds_once}
-use borrow.Author.Rules.{rules}
 use Rattle.salvage.proofs.finding.find.Goals as goal
 
 pub returns-then-not-well_table : goal.returns-then-not-well_table

@@ -1,13 +1,11 @@
 -- `salvage::slots_left::leave_slots` meets its contract. The invariant: the first i slots are settled, reported and counted. Assumes nothing.
-use Prim.Native.Nat.{ℕ, ◌+◌, ◌-◌, ◌≤◌}
-use mathlib.Core.Path.{◌≡◌, refl, sym, ap, ◌∙◌}
-use mathlib.Core.Logic.{⊎_elim}
+use Prim.Native.Nat.{◌+◌}
+use mathlib.Core.Path.{refl, ap, ◌∙◌}
 use native.Mathlib.Omega.{arith}
 use lib.ListN.{length, length-set}
 use Rattle.profile.proofs.WholeSlots.{at_most_15}
-use Rattle.salvage.proofs.Leaving.{settled_to, settled_length, settled_whole, settled_none, settled_all, found_byte, settled_more}
-use Rattle.salvage.proofs.Reporting.{reported_to, cleared_to, reported_none, cleared_none, reported_length, few_to, reported_more, cleared_same, cleared_more, reported_all, cleared_all}
-use borrow.Author.Rules.{rules}
+use Rattle.salvage.proofs.Leaving.{settled_length, settled_whole, settled_none, settled_all, found_byte, settled_more}
+use Rattle.salvage.proofs.Reporting.{reported_none, cleared_none, few_to, reported_more, cleared_same, cleared_more, reported_all, cleared_all}
 use Rattle.salvage.proofs.slots_left.leave_slots.Goals.{then-found-ne-KEPT, else-found-ne-KEPT}
 use Rattle.salvage.proofs.slots_left.leave_slots.Goals as goal
 
@@ -37,8 +35,8 @@ loop-i-preserved c = let t = c.args.t.now in
       more,
       rw c.loop-i.invariant.4 (reported_more t i c.loop-i-test.true c.args.report.now found (omega (arith, c.loop-i-test.true, c.requires.1)) e),
       elim c.if-found-ne-KEPT.branch [
-        then-found-ne-KEPT w ↦ w.cleared-is ∙ omega (arith, c.loop-i.invariant.5, cleared_more t i c.loop-i-test.true found e w.if-found-ne-KEPT.true)
-      | else-found-ne-KEPT w ↦ w.cleared-is ∙ omega (arith, c.loop-i.invariant.5, cleared_same t i c.loop-i-test.true found e w.if-found-ne-KEPT.false)
+        | then-found-ne-KEPT w ↦ w.cleared-is ∙ omega (arith, c.loop-i.invariant.5, cleared_more t i c.loop-i-test.true found e w.if-found-ne-KEPT.true)
+        | else-found-ne-KEPT w ↦ w.cleared-is ∙ omega (arith, c.loop-i.invariant.5, cleared_same t i c.loop-i-test.true found e w.if-found-ne-KEPT.false)
       ],
     )
 

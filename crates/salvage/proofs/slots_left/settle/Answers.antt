@@ -1,7 +1,6 @@
 -- `salvage::slots_left::settle` meets its contract: what is not kept is wiped. Assumes nothing.
 use native.Mathlib.Omega.{arith}
 use Rattle.salvage.proofs.Settling.{stays, goes}
-use borrow.Author.Rules.{rules}
 use Rattle.salvage.proofs.slots_left.settle.Goals as goal
 
 pub returns-then-found-ne-KEPT : goal.returns-then-found-ne-KEPT

@@ -1,17 +1,14 @@
 -- `setups::install::install` meets its contract: refused as it was decided or for want of room, or the right stored. Assumes nothing.
 use Prim.Native.Nat.{◌+◌, ◌*◌}
-use mathlib.Core.Path.{◌≡◌, ap, ◌∙◌}
+use mathlib.Core.Path.{ap, ◌∙◌}
 use native.Mathlib.Omega.{arith}
-use lib.ListN.{length}
 use Rattle.profile.specs.Sizes.{hash_size}
-use Rattle.profile.specs.Slot.{Right}
 use Rattle.profile.specs.Table.{length_of}
 use Rattle.profile.proofs.Strings.{length_part}
-use Rattle.changes.specs.Change.{slot_at, right_from}
+use Rattle.changes.specs.Change.{right_from}
 use Rattle.octets.proofs.ByteBounds.{below_256}
-use Rattle.slots.specs.declared.place.Place.TheVariants.{Reserved}
 use Rattle.decisions.proofs.Answers.{refused_serves, done_serves}
-use Rattle.decisions.proofs.Deciding.{Held, chosen_reserved}
+use Rattle.decisions.proofs.Deciding.{chosen_reserved}
 use Rattle.setups.proofs.Outcomes.{install_refused, too_long, installs, install_moves}
 use borrow.Author.Rules.{rules}
 use Rattle.setups.proofs.install.install.Goals as goal

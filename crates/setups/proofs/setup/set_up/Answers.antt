@@ -1,11 +1,7 @@
 -- `setups::setup::set_up` meets its contract, test by test. Assumes nothing.
-use mathlib.Core.Path.{◌≡◌, sym, ◌∙◌}
-use mathlib.Core.Bool.{false}
-use Rattle.profile.specs.Slot.{in_use}
-use Rattle.profile.specs.Table.{slots_of}
+use mathlib.Core.Path.{sym, ◌∙◌}
 use Rattle.decisions.proofs.Answers.{refused_serves, done_serves}
 use Rattle.setups.proofs.Outcomes.{no_length, handle_used, no_room, has_room, sets_up, setup_moves}
-use borrow.Author.Rules.{rules}
 use Rattle.setups.proofs.setup.set_up.Goals as goal
 
 pub returns-then-n-eq0 : goal.returns-then-n-eq0

@@ -1,7 +1,6 @@
 -- `slots::head::count_of` meets its contract: the count of its bit and its number. Assumes nothing.
 use mathlib.Core.Path.{ap₂, ◌∙◌}
 use Rattle.profile.specs.Slot.{count_with}
-use borrow.Author.Rules.{rules}
 use Rattle.slots.proofs.head.count_of.Goals as goal
 
 pub returns : goal.returns

@@ -1,5 +1,4 @@
 -- `slots::well::awaits_well` meets its contract, place by place. Assumes nothing.
-use borrow.Author.Rules.{rules}
 use Rattle.slots.proofs.well.awaits_well.Goals as goal
 
 pub returns-in-Reserved : goal.returns-in-Reserved

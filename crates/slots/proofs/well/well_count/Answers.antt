@@ -3,7 +3,6 @@ use mathlib.Core.Path.{ap₂, ◌∙◌}
 use native.Mathlib.Omega.{arith}
 use Rattle.profile.specs.Slot.{count_holds}
 use Rattle.slots.proofs.WellSlots.{no_count_lem, some_count}
-use borrow.Author.Rules.{rules}
 use Rattle.slots.proofs.well.well_count.Goals as goal
 
 pub returns-then-slot_place-lt-ENABLED : goal.returns-then-slot_place-lt-ENABLED

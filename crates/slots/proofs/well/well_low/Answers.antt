@@ -1,6 +1,5 @@
 -- `slots::well::well_low` meets its contract, by either rules. Assumes nothing.
 use Rattle.slots.proofs.WellSlots.{low_before, low_today}
-use borrow.Author.Rules.{rules}
 use Rattle.slots.proofs.well.well_low.Goals as goal
 
 pub returns-then-old : goal.returns-then-old

@@ -2,7 +2,6 @@
 use mathlib.Core.Path.{sym, ◌∙◌}
 use native.Mathlib.Omega.{arith}
 use Rattle.slots.proofs.WellSlots.{empty_slot}
-use borrow.Author.Rules.{rules}
 use Rattle.slots.proofs.well.well_rest.Goals as goal
 
 pub returns-then-slot_place-eq0 : goal.returns-then-slot_place-eq0

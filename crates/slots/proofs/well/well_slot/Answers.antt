@@ -1,6 +1,5 @@
 -- `slots::well::well_slot` meets its contract: the two lowest bits of byte 0, and the rest. Assumes nothing.
 use Rattle.slots.proofs.WellSlots.{well_parts}
-use borrow.Author.Rules.{rules}
 use Rattle.slots.proofs.well.well_slot.Goals as goal
 
 pub returns : goal.returns

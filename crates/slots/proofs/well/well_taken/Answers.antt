@@ -2,7 +2,6 @@
 use mathlib.Core.Path.{sym}
 use native.Mathlib.Omega.{arith}
 use Rattle.slots.proofs.WellSlots.{too_many_hashes, too_long, taken_parts}
-use borrow.Author.Rules.{rules}
 use Rattle.slots.proofs.well.well_taken.Goals as goal
 
 pub returns-then-hashes-gt-MOST_HASHES : goal.returns-then-hashes-gt-MOST_HASHES

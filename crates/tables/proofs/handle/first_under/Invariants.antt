@@ -1,12 +1,9 @@
 -- `tables::handle::first_under` meets its contract. The invariant: no slot from the start up to i is under the handle. Assumes nothing.
-use mathlib.Core.Path.{◌≡◌, sym, ◌∙◌}
-use native.Mathlib.Omega.{arith}
+use mathlib.Core.Path.{◌≡◌}
 use Prim.Native.Nat.{◌+◌, ◌≤◌, ◌-◌}
 use lib.ListN.{drop}
-use borrow.Author.Rules.{rules}
 use Rattle.profile.specs.Table.{slots_of}
 use Rattle.tables.specs.LookUp.{first_under}
-use Rattle.tables.proofs.Turns.{under_stop, under_pass, under_end}
 use Rattle.tables.proofs.handle.first_under.Given as goal
 
 abbrev pub invariant-loop-i : goal.invariant-loop-i

@@ -1,6 +1,5 @@
 -- `tables::handle::in_use_from` meets its contract: the first slot under the handle is one of the slots. Assumes nothing.
 use Rattle.tables.proofs.LookingUp.{in_use_from}
-use borrow.Author.Rules.{rules}
 use Rattle.tables.proofs.handle.in_use_from.Goals as goal
 
 pub returns : goal.returns

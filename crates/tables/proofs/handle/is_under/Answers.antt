@@ -1,8 +1,6 @@
 -- `tables::handle::is_under` meets its contract: an empty slot has no handle, any other has that of its bytes 1 to 10. Assumes nothing.
 use mathlib.Core.Path.{sym, ◌∙◌}
 use native.Mathlib.Omega.{arith}
-use borrow.Author.Tests.{not-true, not-false}
-use borrow.Author.Rules.{rules}
 use Rattle.slots.proofs.Unpacking.{named_empty, named_same, named_differs}
 use Rattle.tables.proofs.handle.is_under.Goals as goal
 

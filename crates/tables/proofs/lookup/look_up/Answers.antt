@@ -1,7 +1,6 @@
 -- `tables::lookup::look_up` meets its contract: the first slot under the handle, and the place of its record. Assumes nothing.
 use mathlib.Core.Path.{sym}
 use Rattle.tables.proofs.LookingUp.{answers_absent, answers_at}
-use borrow.Author.Rules.{rules}
 use Rattle.tables.proofs.lookup.look_up.Goals as goal
 
 pub returns-then-i-t : goal.returns-then-i-t

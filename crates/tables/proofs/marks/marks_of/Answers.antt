@@ -1,12 +1,7 @@
 -- `tables::marks::marks_of` meets its contract. The invariant: the first i are the marks of the first i slots. Assumes nothing.
-use mathlib.Core.Path.{◌≡◌, refl}
-use mathlib.Core.List.{map}
+use mathlib.Core.Path.{refl}
 use native.Mathlib.Omega.{arith}
-use Prim.Native.Nat.{◌≤◌, ◌-◌}
-use lib.ListN.{length, take}
 use borrow.Author.Rules.{rules}
-use Rattle.profile.specs.Table.{slot_bytes}
-use Rattle.tables.specs.Marks.{mark_in}
 use Rattle.tables.proofs.Marking.{one_more, all_there}
 use Rattle.tables.proofs.marks.marks_of.Goals as goal
 
@@ -15,11 +10,11 @@ returns-then-n-gt-MARKS c = record { sixteen = refl; marks = λ few. absurd (ome
 
 pub loop-i-preserved : goal.loop-i-preserved
 loop-i-preserved c = let t = c.args.t.now in (
-      omega arith,
-      search rules,
-      rw c.mark_of.ensures
-          (one_more t c.loop-i.marks c.loop-i.i c.loop-i-test.true (omega arith) _ c.slot_at.ensures.0 c.loop-i.invariant.2),
-    )
+  omega arith,
+  search rules,
+  rw c.mark_of.ensures
+      (one_more t c.loop-i.marks c.loop-i.i c.loop-i-test.true (omega arith) _ c.slot_at.ensures.0 c.loop-i.invariant.2),
+)
 
 pub returns : goal.returns
 returns c = let t = c.args.t.now in

@@ -1,13 +1,10 @@
 -- `tables::marks::marks_of` meets its contract. The invariant: the first i are the marks of the first i slots. Assumes nothing.
-use mathlib.Core.Path.{◌≡◌, refl}
+use mathlib.Core.Path.{◌≡◌}
 use mathlib.Core.List.{map}
-use native.Mathlib.Omega.{arith}
 use Prim.Native.Nat.{◌≤◌, ◌-◌}
 use lib.ListN.{length, take}
-use borrow.Author.Rules.{rules}
 use Rattle.profile.specs.Table.{slot_bytes}
 use Rattle.tables.specs.Marks.{mark_in}
-use Rattle.tables.proofs.Marking.{one_more, all_there}
 use Rattle.tables.proofs.marks.marks_of.Given as goal
 
 abbrev pub invariant-loop-i : goal.invariant-loop-i

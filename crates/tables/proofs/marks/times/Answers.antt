@@ -1,10 +1,5 @@
 -- `tables::marks::times` meets its contract. The invariant: those found, and those among the rest. Assumes nothing.
-use mathlib.Core.Path.{◌≡◌}
 use native.Mathlib.Omega.{arith}
-use Prim.Native.Nat.{◌≤◌, ◌+◌, ◌-◌}
-use lib.ListN.{length, drop}
-use borrow.Author.Rules.{rules}
-use Rattle.tables.specs.Marks.{times_of}
 use Rattle.tables.proofs.Marking.{times_here, times_other, times_end}
 use Rattle.tables.proofs.marks.times.Goals.{then-marks-i, else-marks-i}
 use Rattle.tables.proofs.marks.times.Goals as goal
@@ -15,8 +10,8 @@ loop-i-preserved c =
     let x = c.args.mark in
     let i = c.loop-i.i in
     elim c.if-marks-i.branch [
-      then-marks-i w ↦ rw w.found-is (omega arith, omega arith, omega (arith, c.loop-i.invariant.2, times_here x m i c.loop-i-test.true w.if-marks-i.true))
-    | else-marks-i w ↦ rw w.found-is (omega arith, omega arith, omega (arith, c.loop-i.invariant.2, times_other x m i c.loop-i-test.true w.if-marks-i.false))
+      | then-marks-i w ↦ rw w.found-is (omega arith, omega arith, omega (arith, c.loop-i.invariant.2, times_here x m i c.loop-i-test.true w.if-marks-i.true))
+      | else-marks-i w ↦ rw w.found-is (omega arith, omega arith, omega (arith, c.loop-i.invariant.2, times_other x m i c.loop-i-test.true w.if-marks-i.false))
     ]
 
 pub returns : goal.returns

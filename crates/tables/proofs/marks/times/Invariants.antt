@@ -1,12 +1,8 @@
 -- `tables::marks::times` meets its contract. The invariant: those found, and those among the rest. Assumes nothing.
 use mathlib.Core.Path.{◌≡◌}
-use mathlib.Core.Logic.{⊎_elim}
-use native.Mathlib.Omega.{arith}
 use Prim.Native.Nat.{◌≤◌, ◌+◌, ◌-◌}
 use lib.ListN.{length, drop}
-use borrow.Author.Rules.{rules}
 use Rattle.tables.specs.Marks.{times_of}
-use Rattle.tables.proofs.Marking.{times_here, times_other, times_end}
 use Rattle.tables.proofs.marks.times.Given as goal
 
 abbrev pub invariant-loop-i : goal.invariant-loop-i

@@ -1,6 +1,5 @@
 -- `tables::part::slot_at` meets its contract. Assumes nothing.
 use Rattle.tables.proofs.SlotParts.{slot_lent}
-use borrow.Author.Rules.{rules}
 use Rattle.tables.proofs.part.slot_at.Goals as goal
 
 pub returns : goal.returns

@@ -1,11 +1,6 @@
 -- `tables::table::all_distinct` meets its contract. The invariant: the slots from i on decide. Assumes nothing.
-use mathlib.Core.Path.{◌≡◌, refl, sym, ◌∙◌}
+use mathlib.Core.Path.{refl, sym, ◌∙◌}
 use native.Mathlib.Omega.{arith}
-use Prim.Native.Nat.{◌≤◌, ◌-◌}
-use lib.ListN.{drop}
-use borrow.Author.Rules.{rules}
-use Rattle.profile.specs.Slot.{distinct}
-use Rattle.profile.specs.Table.{slots_of}
 use Rattle.tables.proofs.Turns.{distinct_pass, distinct_stop, distinct_end}
 use Rattle.tables.proofs.table.all_distinct.Goals as goal
 

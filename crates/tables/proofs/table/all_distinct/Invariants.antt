@@ -1,12 +1,9 @@
 -- `tables::table::all_distinct` meets its contract. The invariant: the slots from i on decide. Assumes nothing.
-use mathlib.Core.Path.{◌≡◌, refl, sym, ◌∙◌}
-use native.Mathlib.Omega.{arith}
+use mathlib.Core.Path.{◌≡◌}
 use Prim.Native.Nat.{◌≤◌, ◌-◌}
 use lib.ListN.{drop}
-use borrow.Author.Rules.{rules}
 use Rattle.profile.specs.Slot.{distinct}
 use Rattle.profile.specs.Table.{slots_of}
-use Rattle.tables.proofs.Turns.{distinct_pass, distinct_stop, distinct_end}
 use Rattle.tables.proofs.table.all_distinct.Given as goal
 
 abbrev pub invariant-loop-i : goal.invariant-loop-i

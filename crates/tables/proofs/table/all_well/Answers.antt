@@ -1,12 +1,6 @@
 -- `tables::table::all_well` meets its contract. The invariant: the slots from i on decide. Assumes nothing.
-use mathlib.Core.Path.{◌≡◌, sym, ◌∙◌}
+use mathlib.Core.Path.{sym, ◌∙◌}
 use native.Mathlib.Omega.{arith}
-use Prim.Native.Nat.{◌≤◌, ◌-◌}
-use lib.ListN.{drop}
-use borrow.Author.Tests.{not-true, not-false}
-use borrow.Author.Rules.{rules}
-use Rattle.profile.specs.Bytes.{all}
-use Rattle.profile.specs.Table.{slot_bytes}
 use Rattle.slots.specs.Rules.{well_by}
 use Rattle.tables.proofs.Turns.{each_pass, each_stop, each_end}
 use Rattle.tables.proofs.table.all_well.Goals as goal

@@ -3,7 +3,6 @@
 use mathlib.Core.Path.{sym, ◌∙◌}
 use Rattle.tables.proofs.Turns.{again_empty, again_taken}
 use Rattle.tables.proofs.Marking.{mark_once}
-use borrow.Author.Rules.{rules}
 use Rattle.tables.proofs.table.stands_again.Goals as goal
 
 pub returns-then-slot_place-eq0 : goal.returns-then-slot_place-eq0

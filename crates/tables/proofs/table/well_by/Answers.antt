@@ -1,7 +1,5 @@
 -- `tables::table::well_by` meets its contract: its slots are well formed, and then their handles are distinct. Assumes nothing.
-use borrow.Author.Tests.{not-true, not-false}
 use Rattle.tables.proofs.WellTables.{not_all, all_then}
-use borrow.Author.Rules.{rules}
 use Rattle.tables.proofs.table.well_by.Goals as goal
 
 pub returns-then-not-all_well : goal.returns-then-not-all_well

@@ -1,9 +1,7 @@
 -- `tallies::update::updated` meets its contract: as it was, or with the slot taken off and put on again. Assumes nothing.
 use mathlib.Core.Path.{refl}
-use borrow.Author.Rules.{rules}
 use Rattle.slots.specs.declared.place.Place.TheVariants.{Enabled, Disabled}
 use Rattle.tallies.specs.declared.update.Change.TheVariants.{Moved}
-use Rattle.tallies.specs.Changes.{Updates}
 use Rattle.tallies.proofs.Updating.{was_counted, then_small, moves, return_updates, return_updated}
 use Rattle.tallies.proofs.update.updated.Goals as goal
 

@@ -1,6 +1,5 @@
 -- `tallies::update::with` meets its contract, place by place. Assumes nothing.
 use native.Mathlib.Omega.{arith}
-use borrow.Author.Rules.{rules}
 use Rattle.tallies.proofs.Updating.{room_empty, room_reserved, room_enabled, room_disabled, more_empty, more_reserved, more_enabled, more_disabled}
 use Rattle.tallies.proofs.update.with.Goals as goal
 

@@ -1,5 +1,4 @@
 -- `tallies::update::without` meets its contract, place by place. Assumes nothing.
-use borrow.Author.Rules.{rules}
 use Rattle.tallies.proofs.Updating.{one_empty, one_reserved, one_enabled, one_disabled, less_empty, less_reserved, less_enabled, less_disabled}
 use Rattle.tallies.proofs.update.without.Goals as goal
 

@@ -1,5 +1,4 @@
 -- `totals::change::both` meets its contract: by the cases of the two counts. Assumes nothing.
-use borrow.Author.Rules.{rules}
 use Rattle.totals.proofs.Outcomes.{both_kept}
 use Rattle.totals.proofs.change.both.Goals as goal
 

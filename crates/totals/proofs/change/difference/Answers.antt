@@ -1,10 +1,6 @@
 -- `totals::change::difference` meets its contract: both counts are themselves as signed numbers, and the difference fits. Assumes nothing.
 use mathlib.Core.Path.{refl}
 use native.Mathlib.Omega.{arith}
-use borrow.Author.Rules.{rules}
-use lib.IntN.{pos, ◌-ℤ◌}
-use mir.Syntax.{w32}
-use mir.Val.{SFits}
 use mir.Facts.{to_z-of_z}
 use Rattle.totals.proofs.Fitting.{unsigned_is}
 use Rattle.totals.proofs.Bounds.{difference_fits}

@@ -2,7 +2,6 @@
 use Prim.Native.Nat.{◌*◌, ◌<◌}
 use mathlib.Core.Path.{◌≡◌}
 use native.Mathlib.Omega.{arith}
-use borrow.Author.Rules.{rules}
 use lib.IntN.{pos, ◌*ℤ◌}
 use mir.Syntax.{w32}
 use mir.Val.{to_z, of_z}
@@ -23,12 +22,12 @@ pub overflow_sub-result : goal.overflow_sub-result
 overflow_sub-result c =
     let room : c.args.returns < 30000 = omega (arith, c.if-returns-ge-MOST_RETURNS.false) in
     let most : to_z w32 (of_z w32 (to_z w32 c.args.returns *ℤ pos 65535)) ≡ pos (c.args.returns * 65535) =
-      rw (unsigned_is c.args.returns (omega arith)) (to_z-of_z (most_fits c.args.returns room)) in
+    rw (unsigned_is c.args.returns (omega arith)) (to_z-of_z (most_fits c.args.returns room)) in
     rw most (least_fits c.args.returns room)
 
 pub returns : goal.returns
 returns c =
     let room : c.args.returns < 30000 = omega (arith, c.if-returns-ge-MOST_RETURNS.false) in
     let most : to_z w32 (of_z w32 (to_z w32 c.args.returns *ℤ pos 65535)) ≡ pos (c.args.returns * 65535) =
-      rw (unsigned_is c.args.returns (omega arith)) (to_z-of_z (most_fits c.args.returns room)) in
+    rw (unsigned_is c.args.returns (omega arith)) (to_z-of_z (most_fits c.args.returns room)) in
     rw (most, to_z-of_z (least_fits c.args.returns room), to_z-of_z c.ranges.total) (tested c.args.total c.args.returns room)

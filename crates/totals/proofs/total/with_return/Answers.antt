@@ -1,5 +1,5 @@
 -- `totals::total::with_return` meets its contract: nothing is added, or the change of one counted return, which fits. Assumes nothing.
-use Prim.Native.Nat.{ℕ, ◌≤◌}
+use Prim.Native.Nat.{◌≤◌}
 use mathlib.Core.Path.{◌≡◌, sym, ap, ◌∙◌}
 use native.Mathlib.Omega.{arith}
 use borrow.Author.Rules.{rules}
@@ -22,7 +22,7 @@ overflow_add-result c =
     let few_stored : c.in-Both.stored ≤ 65535 = search rules in
     let few_sent : c.in-Both.sent ≤ 65535 = search rules in
     let by_is : to_z w32 (of_z w32 c.difference-by.result) ≡ pos c.in-Both.sent -ℤ pos c.in-Both.stored =
-      ap (λ (z : ℤ). to_z w32 (of_z w32 z)) c.difference-by.ensures ∙ to_z-of_z (difference_fits c.in-Both.sent c.in-Both.stored few_sent few_stored) in
+    ap (λ (z : ℤ). to_z w32 (of_z w32 z)) c.difference-by.ensures ∙ to_z-of_z (difference_fits c.in-Both.sent c.in-Both.stored few_sent few_stored) in
     rw (to_z-of_z c.ranges.total, by_is) (sum_fits c.args.total c.args.returns c.requires _ _ few_sent few_stored)
 
 pub overflow_add-result-2 : goal.overflow_add-result-2
@@ -33,7 +33,7 @@ returns c =
     let few_stored : c.in-Both.stored ≤ 65535 = search rules in
     let few_sent : c.in-Both.sent ≤ 65535 = search rules in
     let by_is : to_z w32 (of_z w32 c.difference-by.result) ≡ pos c.in-Both.sent -ℤ pos c.in-Both.stored =
-      ap (λ (z : ℤ). to_z w32 (of_z w32 z)) c.difference-by.ensures ∙ to_z-of_z (difference_fits c.in-Both.sent c.in-Both.stored few_sent few_stored) in
+    ap (λ (z : ℤ). to_z w32 (of_z w32 z)) c.difference-by.ensures ∙ to_z-of_z (difference_fits c.in-Both.sent c.in-Both.stored few_sent few_stored) in
     let k = counted_by c.args.told _ c.counts_in.ensures _ _ c.in-Both.is in
     rw (to_z-of_z c.ranges.total, by_is, to_z-of_z (sum_fits c.args.total c.args.returns c.requires _ _ few_sent few_stored))
     (record { sums = added_one c.args.total c.args.returns (return_said c.args.told) _ _ k; says = sym k.changes })

@@ -2,7 +2,6 @@
 use native.Mathlib.Omega.{arith}
 use Rattle.octets.proofs.ByteBounds.{below_256}
 use Rattle.turning.proofs.Marking.{marked, unmarked}
-use borrow.Author.Rules.{rules}
 use Rattle.turning.proofs.marks.mark_slot.Goals as goal
 
 pub slot_head-requires : goal.slot_head-requires

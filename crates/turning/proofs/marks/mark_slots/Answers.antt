@@ -1,10 +1,9 @@
 -- `turning::marks::mark_slots` meets its contract. The invariant: the first i slots are turned, and the others as they were. Assumes nothing.
-use mathlib.Core.Path.{◌≡◌, refl, ap, ◌∙◌}
+use mathlib.Core.Path.{refl, ap, ◌∙◌}
 use native.Mathlib.Omega.{arith}
-use Prim.Native.Nat.{ℕ, ◌+◌, ◌-◌, ◌*◌, ◌≤◌}
+use Prim.Native.Nat.{◌+◌, ◌-◌, ◌*◌}
 use lib.ListN.{length}
-use Rattle.turning.proofs.Marked.{marked_to, marked_length, marked_none, marked_all, lent_marks, mark_again}
-use borrow.Author.Rules.{rules}
+use Rattle.turning.proofs.Marked.{marked_length, marked_none, marked_all, lent_marks, mark_again}
 use Rattle.turning.proofs.marks.mark_slots.Goals as goal
 
 pub loop-i-init : goal.loop-i-init

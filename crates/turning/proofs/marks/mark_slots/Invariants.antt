@@ -1,10 +1,8 @@
 -- `turning::marks::mark_slots` meets its contract. The invariant: the first i slots are turned, and the others as they were. Assumes nothing.
-use mathlib.Core.Path.{◌≡◌, refl, ap, ◌∙◌}
-use native.Mathlib.Omega.{arith}
-use Prim.Native.Nat.{ℕ, ◌+◌, ◌-◌, ◌*◌, ◌≤◌}
+use mathlib.Core.Path.{◌≡◌}
+use Prim.Native.Nat.{◌-◌, ◌≤◌}
 use lib.ListN.{length}
-use Rattle.turning.proofs.Marked.{marked_to, marked_length, marked_none, marked_all, lent_marks, mark_again}
-use borrow.Author.Rules.{rules}
+use Rattle.turning.proofs.Marked.{marked_to}
 use Rattle.turning.proofs.marks.mark_slots.Given as goal
 
 abbrev pub invariant-loop-i : goal.invariant-loop-i
