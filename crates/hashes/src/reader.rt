@@ -1,5 +1,5 @@
 // A small reader that holds a slot's hash bytes and a position: two thin functions over it, and above them one with plain
-// parameters, which serves every caller. The three are proved by hand.
+// parameters, which serves every caller.
 ghost use Rattle.std.specs.Prelude.{◌≡◌};
 ghost use Rattle.hashes.specs.Readers.{hash_at, HashStands, reader_at, hash_read, Reads};
 
