@@ -1,6 +1,6 @@
 -- The tests of a call that come before its frame.
-use Rattle.std.specs.Prelude.{ℕ, not, leb, ltb, length}
-use Rattle.profile.specs.Bytes.{Bytes, if◌then◌else◌}
+use Rattle.std.specs.Prelude.{ℕ, not, leb, ltb, length, if◌then◌else◌}
+use Rattle.profile.specs.Bytes.{Bytes}
 use Rattle.profile.specs.Sizes.{reply_room, reply_buffer_short, table_length, start_outside, table_not_well_formed, tally_differs}
 use Rattle.profile.specs.Table.{slot_count, whole_slots, well_table}
 use Rattle.profile.specs.Tally.{Tally, tally_in, same_tally}

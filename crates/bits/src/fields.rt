@@ -1,6 +1,5 @@
 // Bytes of packed bit fields, taken apart and built by shifts and masks; the first field stands in the most significant bits.
-ghost use Rattle.std.specs.Prelude.{◌≡◌, ◌+◌, ◌*◌, ◌/◌, ◌%◌, ◌<◌};
-ghost use Rattle.profile.specs.Bytes.{if◌then◌else◌};
+ghost use Rattle.std.specs.Prelude.{◌≡◌, ◌+◌, ◌*◌, ◌/◌, ◌%◌, ◌<◌, if◌then◌else◌};
 
 // Byte 0 of a slot has the place, the hash count, the bit of a count and a spare bit (PROFILE 2.2): the place's number.
 pub fn slot_place(b: u8) -> u8

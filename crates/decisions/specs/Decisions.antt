@@ -1,6 +1,5 @@
 -- What is decided of a request on the record under its handle, before anything is changed.
-use Rattle.std.specs.Prelude.{Bool, true, false}
-use Rattle.profile.specs.Bytes.{if◌then◌else◌}
+use Rattle.std.specs.Prelude.{Bool, true, false, if◌then◌else◌}
 use Rattle.profile.specs.Frame.{not_found, duplicate, unexpected, code}
 use Rattle.slots.specs.declared.place.Place.{Place}
 use Rattle.slots.specs.declared.place.Place.TheVariants.{Empty, Reserved, Enabled, Disabled}

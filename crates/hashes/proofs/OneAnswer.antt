@@ -4,7 +4,8 @@ use mathlib.Core.Bool.{Bool, true, false}
 use mathlib.Core.List.{List, [], ◌∷◌}
 use native.Mathlib.Omega.{arith}
 use lib.ListN.{length}
-use Rattle.profile.specs.Bytes.{Bytes, if◌then◌else◌}
+use Rattle.std.specs.Prelude.{if◌then◌else◌}
+use Rattle.profile.specs.Bytes.{Bytes}
 
 -- `is_listed`: a list with a handle is not the empty one
 pub one_listed : (x : Bytes) (a b : Bool) {l : List Bytes} → l ≡ (if a then x ∷ [] else []) → l ≡ (if b then x ∷ [] else []) → a ≡ b

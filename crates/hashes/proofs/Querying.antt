@@ -6,7 +6,8 @@ use mathlib.Core.Bool.{Bool, false}
 use native.Mathlib.Nat.{not-suc-le-zero}
 use native.Mathlib.Omega.{arith}
 use lib.ListN.{length, drop, length-drop, drop_of_length-le}
-use Rattle.profile.specs.Bytes.{Bytes, part, pieces, same, any, if◌then◌else◌}
+use Rattle.std.specs.Prelude.{if◌then◌else◌}
+use Rattle.profile.specs.Bytes.{Bytes, part, pieces, same, any}
 use Rattle.profile.specs.Table.{place_of, hash_count_of, right_of, unpack}
 use Rattle.profile.specs.Agent.{listed_slot}
 use Rattle.profile.proofs.Strings.{length_pieces}

@@ -1,8 +1,8 @@
 // The hashes of a record against those of a list query (PROFILE 5.8), which are lent and not copied.
 #![tactic(auto)]
 
-ghost use Rattle.std.specs.Prelude.{◌≡◌, [], ◌∷◌, ◌≤◌, ◌*◌, length};
-ghost use Rattle.profile.specs.Bytes.{pieces, same, any, if◌then◌else◌};
+ghost use Rattle.std.specs.Prelude.{◌≡◌, [], ◌∷◌, ◌≤◌, ◌*◌, length, if◌then◌else◌};
+ghost use Rattle.profile.specs.Bytes.{pieces, same, any};
 ghost use Rattle.profile.specs.Sizes.{slot_size, hash_size, most_hashes};
 ghost use Rattle.profile.specs.Table.{unpack, hash_count_of, handle_of, right_of};
 ghost use Rattle.profile.specs.Agent.{listed_slot};

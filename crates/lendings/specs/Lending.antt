@@ -1,6 +1,5 @@
 -- What kinds 3 and 4 give of the right that they lend.
-use Rattle.std.specs.Prelude.{ℕ, eqb}
-use Rattle.profile.specs.Bytes.{if◌then◌else◌}
+use Rattle.std.specs.Prelude.{ℕ, eqb, if◌then◌else◌}
 use Rattle.profile.specs.Slot.{Right}
 use Rattle.profile.specs.Agent.{Given, the_right, the_key}
 

@@ -6,7 +6,8 @@ use Prim.Native.Nat.{ℕ, suc, ◌+◌, ◌*◌, ◌≤◌}
 use native.Mathlib.Omega.{arith}
 use lib.ListN.{length, take, drop, length-append, take-append-drop}
 use lib.Seq.{drop_at, length-take-le}
-use Rattle.profile.specs.Bytes.{Bytes, if◌then◌else◌, over, joined, Each}
+use Rattle.std.specs.Prelude.{if◌then◌else◌}
+use Rattle.profile.specs.Bytes.{Bytes, over, joined, Each}
 use Rattle.profile.specs.Sizes.{handle_size}
 use Rattle.profile.specs.Frame.{frame}
 use Rattle.profile.specs.Slot.{Slot}

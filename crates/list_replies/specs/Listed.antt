@@ -1,6 +1,6 @@
 -- A list of handles as it grows in a buffer.
-use Rattle.std.specs.Prelude.{ℕ, ◌+◌, ◌*◌, List, [], ◌∷◌, ◌++◌, Bool}
-use Rattle.profile.specs.Bytes.{Bytes, if◌then◌else◌, joined}
+use Rattle.std.specs.Prelude.{ℕ, ◌+◌, ◌*◌, List, [], ◌∷◌, ◌++◌, Bool, if◌then◌else◌}
+use Rattle.profile.specs.Bytes.{Bytes, joined}
 use Rattle.profile.specs.Sizes.{handle_size}
 use Rattle.buffers.specs.Over.{over_at}
 use Rattle.reply_writer.specs.Written.{head_of}

@@ -5,7 +5,8 @@ use mathlib.Core.List.{List, [], ◌∷◌, ◌++◌, map}
 use mathlib.Core.Bool.{Bool, true, false}
 use native.Mathlib.Omega.{arith}
 use lib.ListN.{length, length-append}
-use Rattle.profile.specs.Bytes.{Bytes, if◌then◌else◌, same, joined, Bytes256}
+use Rattle.std.specs.Prelude.{if◌then◌else◌}
+use Rattle.profile.specs.Bytes.{Bytes, same, joined, Bytes256}
 use Rattle.profile.specs.Slot.{Entry, reserved, enabled, disabled, Slot, empty, taken, distinct}
 use Rattle.profile.specs.Table.{slots_of, whole_slots, well_table}
 use Rattle.profile.specs.Agent.{Call, agent}

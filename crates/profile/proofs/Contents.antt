@@ -9,7 +9,8 @@ use native.Mathlib.Omega.{arith}
 use native.Mathlib.Nat.{zero-add}
 use lib.Dec.{eqb}
 use lib.ListN.{length, get_elem?, length-map, length-append}
-use Rattle.profile.specs.Bytes.{Bytes, if◌then◌else◌, same}
+use Rattle.std.specs.Prelude.{if◌then◌else◌}
+use Rattle.profile.specs.Bytes.{Bytes, same}
 use Rattle.profile.specs.Slot.{Count, Right, recount}
 use Rattle.profile.specs.Request.{Request, setup, install, retrieve, rek, enable, remove, cancel, list, info}
 use Rattle.profile.specs.History.{Owned, for_use, lent, gone, Ledger, lend, give_back, end, tell, Exchange, history}

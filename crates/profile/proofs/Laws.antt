@@ -8,7 +8,8 @@ use native.Mathlib.Nat.{suc_inj}
 use native.Mathlib.Omega.{arith}
 use lib.Dec.{eqb}
 use lib.ListN.{length, get_elem?, set}
-use Rattle.profile.specs.Bytes.{Bytes, if◌then◌else◌, same, over}
+use Rattle.std.specs.Prelude.{if◌then◌else◌}
+use Rattle.profile.specs.Bytes.{Bytes, same, over}
 use Rattle.profile.specs.Sizes.{reply_room}
 use Rattle.profile.specs.Slot.{Right, Entry, reserved, enabled, disabled, Slot, empty, taken, in_use, distinct}
 use Rattle.profile.specs.Table.{slot_count, slots_of, whole_slots, well_table}

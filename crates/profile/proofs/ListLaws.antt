@@ -9,7 +9,8 @@ use native.Mathlib.Omega.{arith}
 use lib.Dec.{eqb, ltb, lt→ltb}
 use lib.ListN.{length, get_elem?, take, drop, length-append, length-take, length-drop, take-append-drop}
 use lib.Seq.{drop-length, take_at}
-use Rattle.profile.specs.Bytes.{Bytes, if◌then◌else◌, same, any, In}
+use Rattle.std.specs.Prelude.{if◌then◌else◌}
+use Rattle.profile.specs.Bytes.{Bytes, same, any, In}
 use Rattle.profile.specs.Slot.{Right, reserved, enabled, disabled, Slot, empty, taken}
 use Rattle.profile.specs.Request.{list}
 use Rattle.profile.specs.Agent.{Given, handles, asked, listed, fitting, first_of, Answer, done, act}

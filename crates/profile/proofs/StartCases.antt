@@ -8,7 +8,8 @@ use native.Mathlib.Omega.{arith}
 use lib.Dec.{ltb}
 use lib.ListN.{length, drop, get_elem?}
 use lib.Seq.{drop_at}
-use Rattle.profile.specs.Bytes.{Bytes, if◌then◌else◌, byte, word, zeros, same, over, joined, In, pieces, Each}
+use Rattle.std.specs.Prelude.{if◌then◌else◌}
+use Rattle.profile.specs.Bytes.{Bytes, byte, word, zeros, same, over, joined, In, pieces, Each}
 use Rattle.profile.specs.Slot.{Entry, reserved, enabled, disabled, Slot, empty, taken}
 use Rattle.profile.specs.Table.{unpack, image, pack, well_rest, well_slot, slot_bytes, slots_of, table_of, whole_slots, well_table}
 use Rattle.profile.specs.Tally.{Tally, tally_of}

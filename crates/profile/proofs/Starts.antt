@@ -9,7 +9,8 @@ use native.Mathlib.Omega.{arith}
 use lib.Dec.{eqb, leb, ltb}
 use lib.ListN.{length, take, get_elem?, length-take}
 use lib.Seq.{take_all}
-use Rattle.profile.specs.Bytes.{Bytes, if◌then◌else◌, In, over, joined}
+use Rattle.std.specs.Prelude.{if◌then◌else◌}
+use Rattle.profile.specs.Bytes.{Bytes, In, over, joined}
 use Rattle.profile.specs.Slot.{Slot}
 use Rattle.profile.specs.Table.{slot_count, slots_of, whole_slots, well_table}
 use Rattle.profile.specs.Tally.{Tally, tally_in, same_tally}

@@ -7,7 +7,8 @@ use mathlib.Core.Bool.{Bool, true, false}
 use native.Mathlib.Omega.{arith}
 use lib.Dec.{eqb}
 use lib.IntN.{ℤ, pos, ◌+ℤ◌, +ℤ_idl, +ℤ_idr, +ℤ_assoc}
-use Rattle.profile.specs.Bytes.{Bytes, Bytes256, if◌then◌else◌, same, joined}
+use Rattle.std.specs.Prelude.{if◌then◌else◌}
+use Rattle.profile.specs.Bytes.{Bytes, Bytes256, same, joined}
 use Rattle.profile.specs.Sizes.{slot_size}
 use Rattle.profile.specs.Slot.{Count, Entry, reserved, enabled, disabled, Slot}
 use Rattle.profile.specs.Table.{slots_of, whole_slots, well_table}

@@ -1,6 +1,6 @@
 -- The words that the other pages are written with, in worked cases.
-use Rattle.std.specs.Prelude.{ℕ, ◌≡◌, List, [], ◌∷◌, map, Bool, true, false, eqb}
-use Rattle.profile.specs.Bytes.{Bytes, if◌then◌else◌, byte, part, word, word_bytes, zeros, all_zero, same, from1to, over, all, any, joined, pieces}
+use Rattle.std.specs.Prelude.{ℕ, ◌≡◌, List, [], ◌∷◌, map, Bool, true, false, eqb, if◌then◌else◌}
+use Rattle.profile.specs.Bytes.{Bytes, byte, part, word, word_bytes, zeros, all_zero, same, from1to, over, all, any, joined, pieces}
 use Rattle.profile.specs.Text.{text}
 use Rattle.profile.specs.CaseBytes.{hex, counting, sized, changed}
 

@@ -1,7 +1,7 @@
 -- Words for the worked cases: bytes in hex as PROFILE 9 shows them, slots laid out by hand, and the handles, keys and hashes that occur.
-use Rattle.std.specs.Prelude.{ℕ, zero, suc, ◌+◌, ◌-◌, ◌*◌, ◌/◌, ◌%◌, List, [], ◌∷◌, ◌++◌, length, take, drop, replicate, ltb}
+use Rattle.std.specs.Prelude.{ℕ, zero, suc, ◌+◌, ◌-◌, ◌*◌, ◌/◌, ◌%◌, List, [], ◌∷◌, ◌++◌, length, take, drop, replicate, ltb, if◌then◌else◌}
 use Prim.Native.String.{String}
-use Rattle.profile.specs.Bytes.{Bytes, if◌then◌else◌}
+use Rattle.profile.specs.Bytes.{Bytes}
 use Rattle.profile.specs.Text.{text}
 
 -- ---- hex: two digits a byte, one space between

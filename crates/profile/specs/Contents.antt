@@ -1,8 +1,8 @@
 -- PROFILE 8.3: what each right holds, told right by right: from what it was at first or from its installation, and from the returns that gave it a count.
-use Rattle.std.specs.Prelude.{ℕ, ◌+◌, ◌≡◌, List, [], ◌∷◌, ◌++◌, Bool, true, false, ◌&&◌, length, eqb}
+use Rattle.std.specs.Prelude.{ℕ, ◌+◌, ◌≡◌, List, [], ◌∷◌, ◌++◌, Bool, true, false, ◌&&◌, length, eqb, if◌then◌else◌}
 use Rattle.std.proofs.Math.Option.{some}
 use Rattle.std.proofs.Math.ListN.{get_elem?}
-use Rattle.profile.specs.Bytes.{Bytes, if◌then◌else◌, same}
+use Rattle.profile.specs.Bytes.{Bytes, same}
 use Rattle.profile.specs.Slot.{Count, Right}
 use Rattle.profile.specs.Request.{Request, setup, install, retrieve, rek, enable, remove, cancel, list, info}
 use Rattle.profile.specs.History.{Owned, for_use, lent, gone, Ledger, right_number, Exchange}

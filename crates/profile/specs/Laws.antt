@@ -1,8 +1,8 @@
 -- PROFILE 2.5, 4, 5.1 and 5.8 said once more, each rule in another way than its definition says it: so that a wrong definition is refused.
-use Rattle.std.specs.Prelude.{ℕ, ◌+◌, ◌-◌, ◌*◌, ◌≤◌, ◌<◌, ◌≡◌, ◌⊎◌, ◌↔◌, List, [], ◌∷◌, ◌++◌, Bool, true, false, eqb, ltb, length, set}
+use Rattle.std.specs.Prelude.{ℕ, ◌+◌, ◌-◌, ◌*◌, ◌≤◌, ◌<◌, ◌≡◌, ◌⊎◌, ◌↔◌, List, [], ◌∷◌, ◌++◌, Bool, true, false, eqb, ltb, length, set, if◌then◌else◌}
 use Rattle.std.proofs.Math.Option.{some}
 use Rattle.std.proofs.Math.ListN.{get_elem?}
-use Rattle.profile.specs.Bytes.{Bytes, if◌then◌else◌, In, over}
+use Rattle.profile.specs.Bytes.{Bytes, In, over}
 use Rattle.profile.specs.Slot.{Right, Entry, reserved, enabled, disabled, Slot, empty, taken}
 use Rattle.profile.specs.Frame.{Refusal, code, kind_number, status_in}
 use Rattle.profile.specs.Agent.{Given, handles, Found, absent, one, Call, Outcome}

@@ -1,6 +1,6 @@
 -- PROFILE 2.10: the salvage of a damaged table: what is found of each slot, the table left, the report and the number.
-use Rattle.std.specs.Prelude.{ℕ, suc, List, [], ◌∷◌, map, Bool, false, not, length, ltb}
-use Rattle.profile.specs.Bytes.{Bytes, if◌then◌else◌, zeros, over, joined}
+use Rattle.std.specs.Prelude.{ℕ, suc, List, [], ◌∷◌, map, Bool, false, not, length, ltb, if◌then◌else◌}
+use Rattle.profile.specs.Bytes.{Bytes, zeros, over, joined}
 use Rattle.profile.specs.Sizes.{slot_size, table_length, report_buffer_short}
 use Rattle.profile.specs.Slot.{Slot, empty, taken, in_use}
 use Rattle.profile.specs.Table.{unpack, well_slot, slot_count, slot_bytes, whole_slots}

@@ -1,6 +1,6 @@
 -- PROFILE 2.11: what the program `cardsalvage` prints: the table left, and the report in words.
-use Rattle.std.specs.Prelude.{ℕ, suc, List, [], ◌∷◌, ◌++◌, not}
-use Rattle.profile.specs.Bytes.{Bytes, if◌then◌else◌}
+use Rattle.std.specs.Prelude.{ℕ, suc, List, [], ◌∷◌, ◌++◌, not, if◌then◌else◌}
+use Rattle.profile.specs.Bytes.{Bytes}
 use Rattle.profile.specs.Sizes.{table_length}
 use Rattle.profile.specs.Text.{text}
 use Rattle.profile.specs.Table.{whole_slots}

@@ -1,6 +1,6 @@
 -- PROFILE 8.4: calls that differ in their starts alone, and what does not depend on where the search of a setup begins.
-use Rattle.std.specs.Prelude.{ℕ, ◌≡◌, ◌↔◌, List, [], ◌∷◌, Bool, true, false, eqb, ltb, length}
-use Rattle.profile.specs.Bytes.{Bytes, Bytes256, if◌then◌else◌, In, over, joined}
+use Rattle.std.specs.Prelude.{ℕ, ◌≡◌, ◌↔◌, List, [], ◌∷◌, Bool, true, false, eqb, ltb, length, if◌then◌else◌}
+use Rattle.profile.specs.Bytes.{Bytes, Bytes256, In, over, joined}
 use Rattle.profile.specs.Slot.{Slot}
 use Rattle.profile.specs.Table.{slots_of, whole_slots, well_table}
 use Rattle.profile.specs.Frame.{frame}

@@ -1,6 +1,6 @@
 -- PROFILE 2.8: the tally of a table: five numbers that say how it is filled.
-use Rattle.std.specs.Prelude.{ℕ, ◌+◌, List, [], ◌∷◌, Bool, ◌&&◌, not, length, eqb}
-use Rattle.profile.specs.Bytes.{Bytes, if◌then◌else◌}
+use Rattle.std.specs.Prelude.{ℕ, ◌+◌, List, [], ◌∷◌, Bool, ◌&&◌, not, length, eqb, if◌then◌else◌}
+use Rattle.profile.specs.Bytes.{Bytes}
 use Rattle.profile.specs.Sizes.{table_length, table_not_well_formed}
 use Rattle.profile.specs.Slot.{reserved, enabled, disabled, Slot, empty, taken}
 use Rattle.profile.specs.Table.{slots_of, whole_slots, well_table}

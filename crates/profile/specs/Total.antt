@@ -1,6 +1,6 @@
 -- PROFILE 4.4 and 4.5: what a return did to the count, and the call that keeps a running total of it.
-use Rattle.std.specs.Prelude.{ℕ, ◌+◌, ◌*◌, List, [], ◌∷◌, Bool, ◌&&◌, not, eqb, leb, ltb, ℤ, pos, nat_abs, ◌+ℤ◌, ◌-ℤ◌}
-use Rattle.profile.specs.Bytes.{Bytes, if◌then◌else◌}
+use Rattle.std.specs.Prelude.{ℕ, ◌+◌, ◌*◌, List, [], ◌∷◌, Bool, ◌&&◌, not, eqb, leb, ltb, ℤ, pos, nat_abs, ◌+ℤ◌, ◌-ℤ◌, if◌then◌else◌}
+use Rattle.profile.specs.Bytes.{Bytes}
 use Rattle.profile.specs.Sizes.{most_returns, most_change, total_outside}
 use Rattle.profile.specs.Slot.{Count, NoneKept, Kept, reserved, enabled, disabled, Slot}
 use Rattle.profile.specs.Table.{slots_of}

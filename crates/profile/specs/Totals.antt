@@ -1,6 +1,6 @@
 -- PROFILE 8.7: totals told once more, by requests, statuses and a ledger alone, and along a sequence of totalling calls.
-use Rattle.std.specs.Prelude.{ℕ, ◌+◌, ◌*◌, ◌≤◌, ◌≡◌, ◌↔◌, List, [], ◌∷◌, ◌++◌, map, eqb, ℤ, pos, nat_abs, ◌+ℤ◌}
-use Rattle.profile.specs.Bytes.{Bytes, Bytes256, if◌then◌else◌, same, joined}
+use Rattle.std.specs.Prelude.{ℕ, ◌+◌, ◌*◌, ◌≤◌, ◌≡◌, ◌↔◌, List, [], ◌∷◌, ◌++◌, map, eqb, ℤ, pos, nat_abs, ◌+ℤ◌, if◌then◌else◌}
+use Rattle.profile.specs.Bytes.{Bytes, Bytes256, same, joined}
 use Rattle.profile.specs.Sizes.{most_returns, most_change}
 use Rattle.profile.specs.Slot.{Count}
 use Rattle.profile.specs.Table.{slots_of}

@@ -1,6 +1,6 @@
 -- PROFILE 2.7: tables from before counts had their bit: when they were well formed, what they hold, and how they are turned.
-use Rattle.std.specs.Prelude.{ℕ, ◌+◌, [], ◌∷◌, map, Bool, false, ◌&&◌, not, get_or, drop, eqb}
-use Rattle.profile.specs.Bytes.{Bytes, if◌then◌else◌, byte, word, all, joined}
+use Rattle.std.specs.Prelude.{ℕ, ◌+◌, [], ◌∷◌, map, Bool, false, ◌&&◌, not, get_or, drop, eqb, if◌then◌else◌}
+use Rattle.profile.specs.Bytes.{Bytes, byte, word, all, joined}
 use Rattle.profile.specs.Sizes.{count_at, table_length, table_not_well_formed}
 use Rattle.profile.specs.Slot.{Count, NoneKept, Kept, kept_bit, Right, recount, reserved, enabled, disabled, Slot, empty, taken, distinct}
 use Rattle.profile.specs.Table.{place_of, kept_of, spare_of, handle_of, length_of, right_of, well_rest, slot_bytes, slots_of, whole_slots}

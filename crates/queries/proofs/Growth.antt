@@ -8,7 +8,8 @@ use lib.Dec.{ltb}
 use lib.ListN.{length, take, length-append}
 use lib.Seq.{take-nil, take_all, take-append-le}
 use borrow.Author.Tests.{ltb-true, ltb-false}
-use Rattle.profile.specs.Bytes.{Bytes, if◌then◌else◌, part, Each}
+use Rattle.std.specs.Prelude.{if◌then◌else◌}
+use Rattle.profile.specs.Bytes.{Bytes, part, Each}
 use Rattle.profile.specs.Sizes.{slot_size, handle_size, most_hashes, handle_at}
 use Rattle.profile.specs.Table.{hash_count_of, handle_of, unpack, slot_count, slots_of}
 use Rattle.profile.specs.Agent.{listed_slot, listed}

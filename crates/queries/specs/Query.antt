@@ -1,6 +1,6 @@
 -- How the two queries answer.
-use Rattle.std.specs.Prelude.{ℕ, ◌/◌, eqb}
-use Rattle.profile.specs.Bytes.{Bytes, if◌then◌else◌}
+use Rattle.std.specs.Prelude.{ℕ, ◌/◌, eqb, if◌then◌else◌}
+use Rattle.profile.specs.Bytes.{Bytes}
 use Rattle.profile.specs.Sizes.{most_slots, handle_size}
 use Rattle.profile.specs.Request.{Request}
 use Rattle.profile.specs.Agent.{replied}

@@ -1,6 +1,5 @@
 // Kind 8: the handles of the list go straight from their slots into the reply.
-ghost use Rattle.std.specs.Prelude.{◌≡◌, ◌+◌, ◌*◌, ◌≤◌, ltb, length, take};
-ghost use Rattle.profile.specs.Bytes.{if◌then◌else◌};
+ghost use Rattle.std.specs.Prelude.{◌≡◌, ◌+◌, ◌*◌, ◌≤◌, ltb, length, take, if◌then◌else◌};
 ghost use Rattle.profile.specs.Sizes.{handle_size, most_hashes, handle_at};
 ghost use Rattle.profile.specs.Table.{handle_of, slots_of};
 ghost use Rattle.profile.specs.Agent.{listed};

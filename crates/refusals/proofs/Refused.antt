@@ -5,7 +5,8 @@ use mathlib.Core.List.{[]}
 use mathlib.Core.Bool.{◌&&◌, not}
 use lib.Dec.{leb, eqb}
 use lib.ListN.{length}
-use Rattle.profile.specs.Bytes.{Bytes, if◌then◌else◌, word, over}
+use Rattle.std.specs.Prelude.{if◌then◌else◌}
+use Rattle.profile.specs.Bytes.{Bytes, word, over}
 use Rattle.profile.specs.Sizes.{not_aframe}
 use Rattle.profile.specs.Frame.{kind_number, frame, is_frame, version_holds, kind_of, Refusal, parameter, code}
 use Rattle.profile.specs.Request.{Read, asks, refused, no_frame, zero_bits, read_kind, read_request}

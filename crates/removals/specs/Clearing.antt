@@ -1,6 +1,5 @@
 -- What kinds 6 and 7 do, over the places that they take.
-use Rattle.std.specs.Prelude.{ℕ, List, set}
-use Rattle.profile.specs.Bytes.{if◌then◌else◌}
+use Rattle.std.specs.Prelude.{ℕ, List, set, if◌then◌else◌}
 use Rattle.profile.specs.Slot.{Entry, Slot, empty}
 use Rattle.profile.specs.Frame.{unexpected}
 use Rattle.profile.specs.Agent.{Answer, deny, done, nothing}

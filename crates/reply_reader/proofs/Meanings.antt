@@ -8,7 +8,8 @@ use native.Mathlib.Omega.{arith}
 use lib.Dec.{eqb}
 use lib.ListN.{length, drop, length-drop}
 use lib.Seq.{drop-drop, take_all}
-use Rattle.profile.specs.Bytes.{Bytes, if◌then◌else◌, byte, part, pieces}
+use Rattle.std.specs.Prelude.{if◌then◌else◌}
+use Rattle.profile.specs.Bytes.{Bytes, byte, part, pieces}
 use Rattle.profile.specs.Sizes.{handle_size, key_size, hash_size}
 use Rattle.profile.specs.Slot.{Count, count_with}
 use Rattle.profile.specs.Frame.{Kind, setup_kind, install_kind, retrieve_kind, rek_kind, enable_kind, remove_kind, cancel_kind, list_kind, info_kind, kind_of, is_status, is_frame, version_holds, kind_number, body, kept_in, status_in, hash_count_at18}

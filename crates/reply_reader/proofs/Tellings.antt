@@ -8,7 +8,8 @@ use native.Mathlib.Omega.{arith}
 use lib.Dec.{eqb}
 use lib.ListN.{get_or-eq_default}
 use borrow.Author.Tests.{eq-eqb, ne_eqb, not-true, not-false}
-use Rattle.profile.specs.Bytes.{Bytes, if◌then◌else◌}
+use Rattle.std.specs.Prelude.{if◌then◌else◌}
+use Rattle.profile.specs.Bytes.{Bytes}
 use Rattle.profile.specs.Frame.{Kind, setup_kind, install_kind, retrieve_kind, rek_kind, enable_kind, remove_kind, cancel_kind, list_kind, info_kind, kind_of, is_status, is_frame, version_holds, kind_number, body, kept_in, status_in}
 use Rattle.profile.specs.Device.{none?, gives_count, bit_allowed, shaped}
 use Rattle.reply_reader.specs.declared.answer.Answer.{Answer}

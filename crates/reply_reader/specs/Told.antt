@@ -1,7 +1,7 @@
 -- What the reply reader tells (PROFILE 6.3), and what that means in the profile's terms.
-use Rattle.std.specs.Prelude.{ℕ, ◌+◌, ◌-◌, ◌*◌, ◌/◌, ◌≡◌, ◌&&◌, not, length, drop, replicate, eqb}
+use Rattle.std.specs.Prelude.{ℕ, ◌+◌, ◌-◌, ◌*◌, ◌/◌, ◌≡◌, ◌&&◌, not, length, drop, replicate, eqb, if◌then◌else◌}
 use Rattle.std.proofs.Math.Option.{Option, none, some}
-use Rattle.profile.specs.Bytes.{Bytes, if◌then◌else◌, byte, part, word, pieces}
+use Rattle.profile.specs.Bytes.{Bytes, byte, part, word, pieces}
 use Rattle.profile.specs.Sizes.{handle_size, key_size, hash_size, not_areply}
 use Rattle.profile.specs.Slot.{Count, count_with, right_with}
 use Rattle.profile.specs.Frame.{Kind, setup_kind, install_kind, retrieve_kind, rek_kind, enable_kind, remove_kind, cancel_kind, list_kind, info_kind, kind_of, is_status, is_frame, version_holds, kind_number, body, kept_in, status_in}

@@ -7,7 +7,8 @@ use native.Mathlib.Omega.{arith}
 use lib.Dec.{eqb, leb}
 use lib.ListN.{length, get_or, drop, length-drop}
 use lib.Seq.{drop-drop, take_all, get_or-drop}
-use Rattle.profile.specs.Bytes.{Bytes, if◌then◌else◌, byte, part, word, zeros, from1to}
+use Rattle.std.specs.Prelude.{if◌then◌else◌}
+use Rattle.profile.specs.Bytes.{Bytes, byte, part, word, zeros, from1to}
 use Rattle.profile.specs.Sizes.{most_payload, handle_size, key_size, hash_size, most_hashes}
 use Rattle.profile.specs.Frame.{Kind, setup_kind, install_kind, retrieve_kind, rek_kind, enable_kind, remove_kind, cancel_kind, list_kind, info_kind, kind_of, kind_number, is_frame, version_holds, body, parameter}
 use Rattle.profile.specs.declared.Count.TheVariants.{NoneKept}

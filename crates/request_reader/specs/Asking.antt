@@ -1,7 +1,7 @@
 -- What the request reader answers, for every frame (PROFILE 4.3 and 6.1): the tests in their order, and the answers.
-use Rattle.std.specs.Prelude.{ℕ, ◌+◌, ◌-◌, ◌*◌, ◌/◌, ◌%◌, Bool, ◌&&◌, not, eqb, leb}
+use Rattle.std.specs.Prelude.{ℕ, ◌+◌, ◌-◌, ◌*◌, ◌/◌, ◌%◌, Bool, ◌&&◌, not, eqb, leb, if◌then◌else◌}
 use Rattle.std.proofs.Math.Option.{Option, none, some}
-use Rattle.profile.specs.Bytes.{Bytes, if◌then◌else◌, byte, part, word, zeros, from1to}
+use Rattle.profile.specs.Bytes.{Bytes, byte, part, word, zeros, from1to}
 use Rattle.profile.specs.Sizes.{most_payload, handle_size, key_size, hash_size, most_hashes}
 use Rattle.profile.specs.Frame.{Kind, setup_kind, install_kind, retrieve_kind, rek_kind, enable_kind, remove_kind, cancel_kind, list_kind, info_kind, kind_of, is_frame, version_holds, kind_number}
 use Rattle.profile.specs.declared.Count.TheVariants.{NoneKept}

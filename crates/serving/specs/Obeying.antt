@@ -1,6 +1,6 @@
 -- What the steps of a frame promise.
-use Rattle.std.specs.Prelude.{ℕ, ◌≡◌, eqb}
-use Rattle.profile.specs.Bytes.{Bytes, if◌then◌else◌}
+use Rattle.std.specs.Prelude.{ℕ, ◌≡◌, eqb, if◌then◌else◌}
+use Rattle.profile.specs.Bytes.{Bytes}
 use Rattle.profile.specs.Table.{slots_of}
 use Rattle.profile.specs.Tally.{tally_in}
 use Rattle.profile.specs.Frame.{kind_number}

@@ -1,6 +1,6 @@
 -- A slot judged by the rules of today (PROFILE 2.4), or by those from before counts had their bit (PROFILE 2.7).
-use Rattle.std.specs.Prelude.{Bool, ◌&&◌, eqb}
-use Rattle.profile.specs.Bytes.{Bytes, if◌then◌else◌}
+use Rattle.std.specs.Prelude.{Bool, ◌&&◌, eqb, if◌then◌else◌}
+use Rattle.profile.specs.Bytes.{Bytes}
 use Rattle.profile.specs.Table.{kept_of, spare_of, well_count, well_slot}
 use Rattle.profile.specs.Turning.{well_before}
 

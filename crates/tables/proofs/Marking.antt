@@ -11,7 +11,8 @@ use lib.Dec.{eqb, leb}
 use lib.ListN.{length, get_or, take, drop, set, replicate, length-map, get_or-map, take-append-drop, drop_of_length-le}
 use lib.Seq.{take_all, take-suc, take-suc-set, get_or-take, get_or-drop, drop-cons}
 use borrow.Author.Tests.{eq-eqb, ne_eqb, leb-true, leb-false}
-use Rattle.profile.specs.Bytes.{Bytes, part, if◌then◌else◌}
+use Rattle.std.specs.Prelude.{if◌then◌else◌}
+use Rattle.profile.specs.Bytes.{Bytes, part}
 use Rattle.profile.specs.Slot.{in_use, named}
 use Rattle.profile.specs.Table.{place_of, unpack, slot_count, slot_bytes, slots_of}
 use Rattle.profile.proofs.Logic.{split}

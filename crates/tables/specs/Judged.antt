@@ -1,6 +1,6 @@
 -- A table judged by the rules of today (PROFILE 2.5), or by those from before counts had their bit (PROFILE 2.7).
-use Rattle.std.specs.Prelude.{Bool}
-use Rattle.profile.specs.Bytes.{Bytes, if◌then◌else◌}
+use Rattle.std.specs.Prelude.{Bool, if◌then◌else◌}
+use Rattle.profile.specs.Bytes.{Bytes}
 use Rattle.profile.specs.Table.{well_table}
 use Rattle.profile.specs.Turning.{well_table_before}
 

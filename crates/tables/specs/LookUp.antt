@@ -1,6 +1,6 @@
 -- What looking up a handle answers, from the profile's `find`.
-use Rattle.std.specs.Prelude.{ℕ, suc, List, [], ◌∷◌}
-use Rattle.profile.specs.Bytes.{Bytes, if◌then◌else◌}
+use Rattle.std.specs.Prelude.{ℕ, suc, List, [], ◌∷◌, if◌then◌else◌}
+use Rattle.profile.specs.Bytes.{Bytes}
 use Rattle.profile.specs.Slot.{Slot, named}
 use Rattle.profile.specs.Agent.{Found, absent, one}
 use Rattle.slots.specs.Places.{place_of_entry}

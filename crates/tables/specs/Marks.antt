@@ -1,7 +1,7 @@
 -- Marks: one byte for each handle, by which most handles are told apart at once.
-use Rattle.std.specs.Prelude.{ℕ, suc, ◌≤◌, ◌<◌, ◌≡◌, List, [], ◌∷◌, map, eqb, length, get_or, take, replicate}
+use Rattle.std.specs.Prelude.{ℕ, suc, ◌≤◌, ◌<◌, ◌≡◌, List, [], ◌∷◌, map, eqb, length, get_or, take, replicate, if◌then◌else◌}
 use Rattle.std.specs.Int.Bits.{bit_xor}
-use Rattle.profile.specs.Bytes.{Bytes, part, if◌then◌else◌}
+use Rattle.profile.specs.Bytes.{Bytes, part}
 use Rattle.profile.specs.Table.{slot_count, slot_bytes}
 
 -- the mark of a handle, and that of a slot's bytes: equal handles have equal marks

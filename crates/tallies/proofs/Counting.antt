@@ -7,7 +7,8 @@ use native.Mathlib.Omega.{arith}
 use borrow.Author.Tests.{lt-ltb, le-ltb}
 use lib.Dec.{ltb}
 use lib.ListN.{length, get_or, drop, length-take, length-drop}
-use Rattle.profile.specs.Bytes.{Bytes, part, word, if◌then◌else◌}
+use Rattle.std.specs.Prelude.{if◌then◌else◌}
+use Rattle.profile.specs.Bytes.{Bytes, part, word}
 use Rattle.profile.specs.Table.{place_of, right_of, unpack, well_slot, well_table, whole_slots, slot_count, slots_of}
 use Rattle.profile.specs.Tally.{Tally, tally_with, in_slot, plus, tally_of, tally_in}
 use Rattle.profile.proofs.WellFormed.{few_slots}

@@ -1,6 +1,5 @@
 -- What a request did to the slots, as far as a tally counts it, and a tally brought up to date by it.
-use Rattle.std.specs.Prelude.{ℕ, List, [], ◌∷◌, length, eqb}
-use Rattle.profile.specs.Bytes.{if◌then◌else◌}
+use Rattle.std.specs.Prelude.{ℕ, List, [], ◌∷◌, length, eqb, if◌then◌else◌}
 use Rattle.profile.specs.Slot.{Right, reserved, enabled, disabled, Slot, empty, taken}
 use Rattle.profile.specs.Tally.{Tally, plus}
 use Rattle.profile.specs.Agent.{Answer, deny, done}

@@ -1,6 +1,5 @@
 -- What a slot counts for in a tally, by its place and its length.
-use Rattle.std.specs.Prelude.{ℕ, ◌-◌, ◌≤◌, ◌<◌, ◌^◌, ltb}
-use Rattle.profile.specs.Bytes.{if◌then◌else◌}
+use Rattle.std.specs.Prelude.{ℕ, ◌-◌, ◌≤◌, ◌<◌, ◌^◌, ltb, if◌then◌else◌}
 use Rattle.profile.specs.Tally.{Tally, tally_with}
 use Rattle.slots.specs.declared.place.Place.{Place}
 use Rattle.slots.specs.declared.place.Place.TheVariants.{Empty, Reserved, Enabled, Disabled}
