@@ -17,7 +17,7 @@ fn main() {
     println!("cargo:rerun-if-changed={}", archive.display());
     if !archive.is_file() {
         eprintln!(
-            "cavernlull: {} is not there: `rt staticlib cavernlull` writes it, or \
+            "cavernlull: {} is not there: `scripts/build-archive` writes it, or \
              CAVERNLULL_LIB_DIR names the folder where it is",
             archive.display()
         );

@@ -67,16 +67,16 @@
 //!
 //! # How the archive is reached
 //!
-//! On x86-64 the archive is linked. `rt staticlib cavernlull` writes it to
+//! On x86-64 the archive is linked. `scripts/build-archive` writes it to
 //! `target/staticlib`, where the build finds it; `CAVERNLULL_LIB_DIR` names
 //! another folder. The archive needs nothing but the memory that it is lent: it
 //! does not allocate or block, and has no state of its own.
 //!
 //! The archive is x86-64 code, so on any other machine the same functions talk
-//! over a pipe to the *driver*, a program that calls the archive under the
-//! Rattle toolchain's emulator (`scripts/build-driver` builds it). This is for
-//! tests and demonstrations only: it is slow, it panics where there is no
-//! driver, and it takes no table, frame or buffer of more than 131,072 bytes.
+//! over a pipe to the *driver*, a program that calls the archive under an
+//! emulator (`scripts/build-driver` builds it). This is for tests and
+//! demonstrations only: it is slow, it panics where there is no driver, and it
+//! takes no table, frame or buffer of more than 131,072 bytes.
 
 #![deny(missing_docs)]
 #![deny(unsafe_code)]

@@ -3,7 +3,7 @@
 //!
 //! The archive is x86-64 code, and so is the driver (`tests/c/driver.c`, built
 //! by `scripts/build-driver`). It runs on any machine that has the Rattle
-//! toolchain, under its emulator if need be.
+//! toolchain, under an emulator if need be.
 //!
 //! Answers come out in the order in which commands go in, so many commands may
 //! be on their way at once. Both ends must then be served at the same time,
@@ -81,7 +81,7 @@ impl Driver {
     pub fn start() -> Driver {
         assert!(
             Path::new(RUN).exists(),
-            "there is no driver: `rt staticlib cavernlull` and then `scripts/build-driver` build target/driver"
+            "there is no driver: `scripts/build-archive` and then `scripts/build-driver` build target/driver"
         );
         let mut child = Command::new(RUN)
             .stdin(Stdio::piped())

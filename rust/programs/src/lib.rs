@@ -1,8 +1,8 @@
 //! The proved programs, ready to be run by a test.
 //!
-//! `rt ci` leaves them in `target/bin` at the root of the repository. They are
-//! x86-64 programs: such a machine runs them as they are, and any other runs
-//! them as `rt` does, under the toolchain's emulator and its loader.
+//! `rt ci`, and `rt run` in a program's folder, leave each in the folder `out`
+//! of its crate. They are x86-64 programs: such a machine runs them as they
+//! are, and any other under an emulator, with the toolchain's loader.
 
 #![forbid(unsafe_code)]
 #![warn(missing_docs)]
@@ -22,10 +22,11 @@ const LOADER: &str = "/lib64/ld-linux-x86-64.so.2";
 /// Where the program was not built, or this machine cannot run it: the test of
 /// a program that is not there must fail.
 pub fn command(name: &str) -> Command {
-    let program = root().join("target/bin").join(name);
+    let folder = root().join("crates").join(name);
+    let program = folder.join("out").join(name);
     assert!(
         program.is_file(),
-        "{} is not there: `rt ci`, or `rt check {name}`, builds it",
+        "{} is not there: `rt ci`, or `rt run` in crates/{name}, builds it",
         program.display()
     );
     let mut command = if cfg!(target_arch = "x86_64") && Path::new(LOADER).is_file() {
@@ -44,17 +45,17 @@ fn root() -> PathBuf {
     Path::new(env!("CARGO_MANIFEST_DIR")).join("../..")
 }
 
-/// The command with which `rt` would run the program.
+/// The command that runs the program with the loader and the C library of the
+/// toolchain.
 fn by_the_toolchain(program: &Path) -> Command {
-    let tools = tools(&toolchain());
-    let emulator = tools.join("bin/qemu-x86_64");
+    let tools = toolchain();
     let loader = tools.join("lib/ld-linux-x86-64.so.2");
-    let mut command = if emulator.is_file() {
-        let mut command = Command::new(emulator);
+    let mut command = if cfg!(target_arch = "x86_64") {
+        Command::new(loader)
+    } else {
+        let mut command = Command::new(emulator(&tools));
         command.arg(loader);
         command
-    } else {
-        Command::new(loader)
     };
     command
         .arg("--library-path")
@@ -63,12 +64,20 @@ fn by_the_toolchain(program: &Path) -> Command {
     command
 }
 
-/// The folder of the Rattle toolchain: that of `RATTLE_HOME`, or that of the
-/// `rt` on the path.
-fn toolchain() -> PathBuf {
-    if let Some(home) = env::var_os("RATTLE_HOME").filter(|home| !home.is_empty()) {
-        return home.into();
+/// What runs x86-64 programs: the toolchain's emulator if it has one, or else
+/// the one on the path.
+fn emulator(tools: &Path) -> PathBuf {
+    let own = tools.join("bin/qemu-x86_64");
+    if own.is_file() {
+        own
+    } else {
+        "qemu-x86_64".into()
     }
+}
+
+/// The part of the Rattle toolchain, found by the `rt` on the path, that links
+/// programs.
+fn toolchain() -> PathBuf {
     let path = env::var_os("PATH").unwrap_or_default();
     let rt = env::split_paths(&path)
         .map(|folder| folder.join("rt"))
@@ -78,17 +87,7 @@ fn toolchain() -> PathBuf {
     rt.ancestors()
         .nth(2)
         .expect("`rt` stands in the toolchain's folder bin")
-        .to_path_buf()
-}
-
-/// The part of the toolchain that links and runs programs on this machine.
-fn tools(home: &Path) -> PathBuf {
-    let own = home.join("on").join(env::consts::ARCH).join("toolchain");
-    if own.is_dir() {
-        own
-    } else {
-        home.join("toolchain")
-    }
+        .join("toolchain")
 }
 
 /// The variables that would change what the emulator does.
