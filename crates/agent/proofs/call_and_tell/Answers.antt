@@ -6,21 +6,24 @@ use Rattle.agent.proofs.Steps.{passed, given_back, answered}
 use Rattle.agent.proofs.call_and_tell.Goals as goal
 
 pub returns-then-number-ne-DONE : goal.returns-then-number-ne-DONE
-returns-then-number-ne-DONE c = let a = c.args in
+returns-then-number-ne-DONE c =
+    let a = c.args in
     record {
       calls = given_back a.table.now a.tally a.start a.frame.now a.reply.now _ c.tested-number.ensures c.if-number-ne-DONE.true;
       tells = sym (none_moved (slots_of a.table.now));
     }
 
 pub answer-answered-requires : goal.answer-answered-requires
-answer-answered-requires c = let p = (passed _ _ _ _ (sym c.tested-number.ensures ∙ c.if-number-ne-DONE.false)) in
+answer-answered-requires c =
+    let p = (passed _ _ _ _ (sym c.tested-number.ensures ∙ c.if-number-ne-DONE.false)) in
     (p.ready, p.inside)
 
 pub updated-afterwards-requires : goal.updated-afterwards-requires
-updated-afterwards-requires c = rw ((passed _ _ _ _ (sym c.tested-number.ensures ∙ c.if-number-ne-DONE.false))).lent c.answer-answered.ensures.updates
+updated-afterwards-requires c = rw (passed _ _ _ _ (sym c.tested-number.ensures ∙ c.if-number-ne-DONE.false)).lent c.answer-answered.ensures.updates
 
 pub returns : goal.returns
-returns c = let a = c.args in
+returns c =
+    let a = c.args in
     record {
       calls = answered a.table.now a.tally a.start a.frame.now a.reply.now _ c.tested-number.ensures c.if-number-ne-DONE.false c.answer-answered.ensures _ c.updated-afterwards.ensures;
       tells = c.answer-answered.ensures.changed;

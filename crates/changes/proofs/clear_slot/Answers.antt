@@ -9,5 +9,6 @@ pub wipe_slot-requires : goal.wipe_slot-requires
 wipe_slot-requires c = c.requires.inside
 
 pub returns : goal.returns
-returns c = let t = c.args.t.now in
+returns c =
+    let t = c.args.t.now in
     c.wipe_slot.ensures ∙ emptied t c.args.i c.requires (below_256 t (search rules))

@@ -12,7 +12,8 @@ pub lend-requires : goal.lend-requires
 lend-requires c = lent_placed c.args.t.now c.args.i c.requires.0 2 (4288 * c.args.i + 4288 - 4288 * c.args.i) (omega arith) c.requires.1
 
 pub returns : goal.returns
-returns c = let t = c.args.t.now in
+returns c =
+    let t = c.args.t.now in
     let i = c.args.i in
     let k = 4288 * i + 4288 - 4288 * i in
     changed t i c.requires.0 (below_256 t (search rules)) (λ s. taken c.args.k (disabled (right_of s))) c.lend.new.s k (omega arith) c.lend.ensures

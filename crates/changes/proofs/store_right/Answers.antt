@@ -9,11 +9,13 @@ use borrow.Author.Rules.{rules}
 use Rattle.changes.proofs.store_right.Goals as goal
 
 pub install-requires : goal.install-requires
-install-requires c = let i = c.args.i in
+install-requires c =
+    let i = c.args.i in
     (lent_placed c.args.t.now i c.requires.0 1 (4288 * i + 4288 - 4288 * i) (omega arith) c.requires.1, c.requires.2, c.requires.3, c.requires.4)
 
 pub returns : goal.returns
-returns c = let a = c.args in
+returns c =
+    let a = c.args in
     let t = a.t.now in
     let i = a.i in
     let k = 4288 * i + 4288 - 4288 * i in

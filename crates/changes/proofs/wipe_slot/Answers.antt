@@ -5,5 +5,6 @@ use Rattle.changes.proofs.Lent.{wiped}
 use Rattle.changes.proofs.wipe_slot.Goals as goal
 
 pub returns : goal.returns
-returns c = let i = c.args.i in
+returns c =
+    let i = c.args.i in
     wiped c.args.t.now i c.requires c.clear.new.d (4288 * i + 4288 - 4288 * i) (omega arith) c.clear.ensures

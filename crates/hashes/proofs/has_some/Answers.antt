@@ -3,7 +3,8 @@ use Rattle.hashes.proofs.Querying.{record_none, record_some}
 use Rattle.hashes.proofs.has_some.Goals as goal
 
 pub returns-then-count-eq0 : goal.returns-then-count-eq0
-returns-then-count-eq0 c = let a = c.args in
+returns-then-count-eq0 c =
+    let a = c.args in
     record_none a.s.now a.q.now _ c.slot_hashes-count.ensures c.if-count-eq0.true
 
 pub returns : goal.returns

@@ -7,5 +7,6 @@ pub returns-then-kind-eq3 : goal.returns-then-kind-eq3
 returns-then-kind-eq3 c = rw c.if-kind-eq3.true c.reply_right.ensures
 
 pub returns-else-kind-eq3 : goal.returns-else-kind-eq3
-returns-else-kind-eq3 c = let four : c.args.kind ≡ 4 = omega arith in
+returns-else-kind-eq3 c =
+    let four : c.args.kind ≡ 4 = omega arith in
     rw four c.reply_key.ensures

@@ -15,4 +15,4 @@ pub put_lines-requires : goal.put_lines-requires
 put_lines-requires c = ((listable c.whole_slots.ensures (ap not c.if-not-whole_slots.false) c.well_table.ensures (ap not c.if-not-well_table.false)), omega arith)
 
 pub returns : goal.returns
-returns c = listed_lines _ ((listable c.whole_slots.ensures (ap not c.if-not-whole_slots.false) c.well_table.ensures (ap not c.if-not-well_table.false))) c.put_word-at.ensures c.put_lines.ensures
+returns c = listed_lines _ (listable c.whole_slots.ensures (ap not c.if-not-whole_slots.false) c.well_table.ensures (ap not c.if-not-well_table.false)) c.put_word-at.ensures c.put_lines.ensures

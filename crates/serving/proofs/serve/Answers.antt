@@ -15,7 +15,8 @@ pub returns-in-Setup : goal.returns-in-Setup
 returns-in-Setup c = served_at c.requires.2 _ c.in-Setup.is c.set_up.ensures
 
 pub install-requires : goal.install-requires
-install-requires c = let w = install_within c.args.frame.now c.args.asked c.requires.2.answers _ _ _ (c.requires.2.yes ∙ ap Yes c.in-Install.is) in
+install-requires c =
+    let w = install_within c.args.frame.now c.args.asked c.requires.2.answers _ _ _ (c.requires.2.yes ∙ ap Yes c.in-Install.is) in
     (c.requires.0, record { few = w.few; some_payload = w.least; short = w.most; inside = omega (arith, w.ends) })
 
 pub returns-in-Install : goal.returns-in-Install
@@ -31,15 +32,18 @@ pub returns-in-Cancel : goal.returns-in-Cancel
 returns-in-Cancel c = served c.requires.2 _ c.in-Cancel.is (omega arith) (cancelled _ c.clear-in-Cancel.ensures)
 
 pub handle_list-requires : goal.handle_list-requires
-handle_list-requires c = let w = list_within c.args.frame.now c.args.asked c.requires.2.answers _ _ _ (c.requires.2.yes ∙ ap Yes c.in-List.is) in
+handle_list-requires c =
+    let w = list_within c.args.frame.now c.args.asked c.requires.2.answers _ _ _ (c.requires.2.yes ∙ ap Yes c.in-List.is) in
     (record { whole = c.requires.0.whole; well = c.requires.0.well; room = c.requires.0.room }, w.few, omega (arith, w.ends))
 
 pub returns-in-List : goal.returns-in-List
-returns-in-List c = let kept = list_keeps c.args.table.now ((below_256 c.args.table.now (search rules))) c.requires.0.whole c.requires.0.well _ _ in
+returns-in-List c =
+    let kept = list_keeps c.args.table.now (below_256 c.args.table.now (search rules)) c.requires.0.whole c.requires.0.well _ _ in
     served c.requires.2 _ c.in-List.is (omega arith) (record { table_is = sym kept; reply_is = c.handle_list.ensures; change_is = list_same c.args.table.now _ _ })
 
 pub returns-in-Info : goal.returns-in-Info
-returns-in-Info c = let kept = info_keeps c.args.table.now ((below_256 c.args.table.now (search rules))) c.requires.0.whole c.requires.0.well _ in
+returns-in-Info c =
+    let kept = info_keeps c.args.table.now (below_256 c.args.table.now (search rules)) c.requires.0.whole c.requires.0.well _ in
     served c.requires.2 _ c.in-Info.is (omega arith) (record { table_is = sym kept; reply_is = c.info.ensures; change_is = info_same c.args.table.now _ })
 
 pub lend-requires : goal.lend-requires

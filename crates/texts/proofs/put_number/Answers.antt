@@ -3,9 +3,9 @@ use Rattle.texts.proofs.Digits.{shown_number}
 use Rattle.texts.proofs.put_number.Goals as goal
 
 pub put_word-requires : goal.put_word-requires
-put_word-requires c = rw ((let d = c.decimal-count in
-    shown_number c.args.n d.result d.new.out c.requires.0 d.ensures.len d.ensures.digits)) c.requires.1
+put_word-requires c = rw (let d = c.decimal-count in
+    shown_number c.args.n d.result d.new.out c.requires.0 d.ensures.len d.ensures.digits) c.requires.1
 
 pub returns : goal.returns
-returns c = rw ((let d = c.decimal-count in
-    shown_number c.args.n d.result d.new.out c.requires.0 d.ensures.len d.ensures.digits)) at c.put_word.ensures
+returns c = rw (let d = c.decimal-count in
+    shown_number c.args.n d.result d.new.out c.requires.0 d.ensures.len d.ensures.digits) at c.put_word.ensures

@@ -5,7 +5,8 @@ use Rattle.turning.proofs.Outcomes.{by_length, by_rules, by_marks}
 use Rattle.turning.proofs.turn.Goals as goal
 
 pub returns-then-not-whole_slots : goal.returns-then-not-whole_slots
-returns-then-not-whole_slots c = let t = c.args.table.now in
+returns-then-not-whole_slots c =
+    let t = c.args.table.now in
     by_length t (sym c.whole_slots.ensures ∙ c.if-not-whole_slots.true)
 
 pub returns-then-not-well_by : goal.returns-then-not-well_by

@@ -11,7 +11,8 @@ pub returns-then-not-zero_block : goal.returns-then-not-zero_block
 returns-then-not-zero_block c = sym (c.loop-rest.invariant ∙ zero_stop c.loop-rest.rest.now 0 1024 (sym c.zero_block.ensures ∙ c.if-not-zero_block.true))
 
 pub loop-rest-preserved : goal.loop-rest-preserved
-loop-rest-preserved c = let rest = c.loop-rest.rest.now in
+loop-rest-preserved c =
+    let rest = c.loop-rest.rest.now in
     c.loop-rest.invariant
     ∙ zero_pass rest 0 1024 (omega arith) (sym c.zero_block.ensures ∙ c.if-not-zero_block.false)
     ∙ sym (zero_last rest 1024)

@@ -21,12 +21,14 @@ pub loop-at-smaller : goal.loop-at-smaller
 loop-at-smaller c = omega arith
 
 pub loop-at-preserved : goal.loop-at-preserved
-loop-at-preserved c = let h : c.loop-at.at < length c.args.d.now = omega arith in
+loop-at-preserved c =
+    let h : c.loop-at.at < length c.args.d.now = omega arith in
     (omega arith, (ap (λ (l : List ℕ). set l c.loop-at.at 0) c.loop-at.invariant.1.0 ∙ fill_more _ 0 _ h, simp length-set c.loop-at.invariant.1.1))
 
 pub shape_of-d : goal.shape_of-d
 shape_of-d c = c.loop-at.invariant.1.1
 
 pub returns : goal.returns
-returns c = let h : length c.args.d.now ≤ c.loop-at.at = omega arith in
+returns c =
+    let h : length c.args.d.now ≤ c.loop-at.at = omega arith in
     fill_end _ _ _ c.loop-at.invariant.0 h c.loop-at.invariant.1.0

@@ -17,7 +17,8 @@ loop-rest-preserved c = less_left _ c.loop-rest.rest.now 64 c.loop-rest.invarian
     (sym c.zero_block-in-loop-rest.ensures ∙ c.if-not-zero_block.false)
 
 pub returns : goal.returns
-returns c = let s = c.args.s.now in
+returns c =
+    let s = c.args.s.now in
     c.zero_block-2.ensures
     ∙ zero_last s (length s - 64)
     ∙ last_decides s c.loop-rest.rest.now 64 c.loop-rest.invariant (omega (arith, c.loop-rest-test.false)) (omega (arith, c.if-s-lt64.false))

@@ -8,5 +8,6 @@ use Rattle.changes.proofs.OverFields.{over_byte}
 use Rattle.changes.proofs.fields.put_head.Goals as goal
 
 pub returns : goal.returns
-returns c = let s = c.args.s.now in
+returns c =
+    let s = c.args.s.now in
     over_byte s c.slot_head.result (omega arith) ∙ ap (λ (b : ℕ). over_at 0 (b ∷ []) s) c.slot_head.ensures

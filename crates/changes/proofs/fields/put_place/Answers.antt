@@ -7,5 +7,6 @@ use Rattle.changes.proofs.OverFields.{over_byte}
 use Rattle.changes.proofs.fields.put_place.Goals as goal
 
 pub returns : goal.returns
-returns c = let s = c.args.s.now in
+returns c =
+    let s = c.args.s.now in
     over_byte s c.with_place-b.result c.requires.1 ∙ ap (λ (b : ℕ). over_at 0 (b ∷ []) s) c.with_place-b.ensures

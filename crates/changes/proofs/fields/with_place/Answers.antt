@@ -5,5 +5,6 @@ use Rattle.bits.proofs.Joining.{join}
 use Rattle.changes.proofs.fields.with_place.Goals as goal
 
 pub returns : goal.returns
-returns c = let b = c.args.b in
+returns c =
+    let b = c.args.b in
     omega (arith, and_mask b 6, join 6 8 c.args.place (bit_and b 63) (omega arith) (mask_lt b 6))

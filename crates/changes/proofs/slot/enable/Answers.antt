@@ -5,7 +5,8 @@ use borrow.Author.Rules.{rules}
 use Rattle.changes.proofs.slot.enable.Goals as goal
 
 pub returns : goal.returns
-returns c = let s = c.args.s.now in
+returns c =
+    let s = c.args.s.now in
     let count = c.put_count in
     enables s (below_256 s (search rules)) c.put_head.new.s count.new.s c.args.count _ _ c.requires
     c.slot_hashes-hashes.ensures c.kept_bit-kept.ensures.0 c.put_head.ensures count.ensures

@@ -5,7 +5,8 @@ use borrow.Author.Rules.{rules}
 use Rattle.changes.proofs.slot.install.Goals as goal
 
 pub returns : goal.returns
-returns c = let content = c.put_content in
+returns c =
+    let content = c.put_content in
     let terms = c.put_terms in
     let a = c.args in
     let label = c.put_label in

@@ -5,7 +5,8 @@ use borrow.Author.Rules.{rules}
 use Rattle.changes.proofs.slot.reserve.Goals as goal
 
 pub returns : goal.returns
-returns c = let s = c.args.s.now in
+returns c =
+    let s = c.args.s.now in
     let label = c.put_label in
     let room = c.put_word in
     reserves s (below_256 s (search rules)) label.new.s room.new.out c.args.h c.args.n (search rules) c.requires label.ensures room.ensures

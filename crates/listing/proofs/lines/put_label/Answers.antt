@@ -15,5 +15,6 @@ pub put_place-requires : goal.put_place-requires
 put_place-requires c = omega (arith, number_few 1 _ c.requires.0)
 
 pub returns : goal.returns
-returns c = let a = c.args in
+returns c =
+    let a = c.args in
     label_there a.i (place_number a.place) c.put_number-after_index.ensures c.put_word-after_space.ensures c.put_place.ensures

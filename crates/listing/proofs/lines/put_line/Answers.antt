@@ -5,7 +5,8 @@ use Rattle.listing.proofs.SlotLines.{label_most, line_there}
 use Rattle.listing.proofs.lines.put_line.Goals as goal
 
 pub put_sizes-requires : goal.put_sizes-requires
-put_sizes-requires c = let h = c.head_of-head in
+put_sizes-requires c =
+    let h = c.head_of-head in
     (omega (arith, h.ensures.hashes_are), omega (arith, h.ensures.length_is), omega (arith, label_most c.args.i (place_number h.result.place) c.requires.0))
 
 pub returns : goal.returns

@@ -18,5 +18,6 @@ pub put_word-requires : goal.put_word-requires
 put_word-requires c = omega (arith, field_few 0 c.args.hashes c.requires.0, field_most c.args.count, field_few 3 c.args.size c.requires.1)
 
 pub returns : goal.returns
-returns c = let a = c.args in
+returns c =
+    let a = c.args in
     sizes_there a.hashes a.count a.size c.put_field-after_hashes.ensures c.put_field-after_count.ensures c.put_field-after_size.ensures c.put_word.ensures

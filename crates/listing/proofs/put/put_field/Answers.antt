@@ -7,9 +7,11 @@ pub put_word-next-requires : goal.put_word-next-requires
 put_word-next-requires c = omega (arith, c.requires.1, field_length c.args.n)
 
 pub put_number-requires : goal.put_number-requires
-put_number-requires c = let w = c.put_word-next in
+put_number-requires c =
+    let w = c.put_word-next in
     (c.requires.0, omega (arith, c.requires.1, field_length c.args.n, w.ensures.ends, w.auto.out))
 
 pub returns : goal.returns
-returns c = let w = c.put_word-next in
+returns c =
+    let w = c.put_word-next in
     field_there c.args.n w.ensures c.put_number.ensures

@@ -12,15 +12,17 @@ unfolding zeros
 loop-i-init c = search rules
 
 pub loop-i-preserved : goal.loop-i-preserved
-loop-i-preserved c = let l = c.loop-i in (
-  search rules,
-  search rules,
-  rw c.hash_at.ensures (pieces_more 20 l.q l.i _ _ (omega arith) l.invariant.2),
-  rest_more 8 (zeros 20) l.q l.i _ l.invariant.3,
-)
+loop-i-preserved c =
+    let l = c.loop-i in (
+      search rules,
+      search rules,
+      rw c.hash_at.ensures (pieces_more 20 l.q l.i _ _ (omega arith) l.invariant.2),
+      rest_more 8 (zeros 20) l.q l.i _ l.invariant.3,
+    )
 
 pub returns : goal.returns
-returns c = let l = c.loop-i in
+returns c =
+    let l = c.loop-i in
     let n = c.args.n in
     let e : l.i ≡ n = omega arith in
     pieces_all 8 n (zeros 20) l.q _ (rw e at l.invariant.2) (rw e at l.invariant.3)

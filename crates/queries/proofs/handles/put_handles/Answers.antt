@@ -13,7 +13,8 @@ pub loop-i-init : goal.loop-i-init
 loop-i-init c = (search rules, passed_none _ _ _ _)
 
 pub slice_bounds-is_listed-end : goal.slice_bounds-is_listed-end
-slice_bounds-is_listed-end c = let a = c.args in
+slice_bounds-is_listed-end c =
+    let a = c.args in
     let l : length a.query ≡ most_hashes = search rules in
     sym (length-take-le a.hashes a.query (omega arith))
 

@@ -11,7 +11,8 @@ pub returns-then-not-is_info : goal.returns-then-not-is_info
 returns-then-not-is_info c = not_shaped info_kind c.args.f.now c.is_info.ensures (ap not c.if-not-is_info.true) c.malformed.ensures
 
 pub info_in-requires : goal.info_in-requires
-info_in-requires c = let room = info_room c.args.f.now (passed c.is_info.ensures (ap not c.if-not-is_info.false)) in
+info_in-requires c =
+    let room = info_room c.args.f.now (passed c.is_info.ensures (ap not c.if-not-is_info.false)) in
     omega arith
 
 pub returns : goal.returns

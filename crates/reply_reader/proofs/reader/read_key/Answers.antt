@@ -11,7 +11,8 @@ pub returns-then-not-is_key : goal.returns-then-not-is_key
 returns-then-not-is_key c = not_shaped rek_kind c.args.f.now c.is_key.ensures (ap not c.if-not-is_key.true) c.malformed.ensures
 
 pub key_in-requires : goal.key_in-requires
-key_in-requires c = let room = key_room c.args.f.now (passed c.is_key.ensures (ap not c.if-not-is_key.false)) in
+key_in-requires c =
+    let room = key_room c.args.f.now (passed c.is_key.ensures (ap not c.if-not-is_key.false)) in
     omega arith
 
 pub returns : goal.returns

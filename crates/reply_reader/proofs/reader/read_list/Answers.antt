@@ -11,7 +11,8 @@ pub returns-then-not-is_list : goal.returns-then-not-is_list
 returns-then-not-is_list c = not_shaped list_kind c.args.f.now c.is_list.ensures (ap not c.if-not-is_list.true) c.malformed.ensures
 
 pub list_in-requires : goal.list_in-requires
-list_in-requires c = let room = list_room c.args.f.now (passed c.is_list.ensures (ap not c.if-not-is_list.false)) in
+list_in-requires c =
+    let room = list_room c.args.f.now (passed c.is_list.ensures (ap not c.if-not-is_list.false)) in
     omega arith
 
 pub returns : goal.returns

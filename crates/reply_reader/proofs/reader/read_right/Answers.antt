@@ -11,7 +11,8 @@ pub returns-then-not-is_right : goal.returns-then-not-is_right
 returns-then-not-is_right c = not_shaped retrieve_kind c.args.f.now c.is_right.ensures (ap not c.if-not-is_right.true) c.malformed.ensures
 
 pub right_in-requires : goal.right_in-requires
-right_in-requires c = let room = right_room c.args.f.now (passed c.is_right.ensures (ap not c.if-not-is_right.false)) in
+right_in-requires c =
+    let room = right_room c.args.f.now (passed c.is_right.ensures (ap not c.if-not-is_right.false)) in
     omega arith
 
 pub returns : goal.returns

@@ -5,5 +5,6 @@ use Rattle.buffers.specs.Over.{over_at}
 use Rattle.reply_writer.proofs.writer.put_head.Goals as goal
 
 pub returns : goal.returns
-returns c = let d = c.args.reply.now in
+returns c =
+    let d = c.args.reply.now in
     c.put_bytes.ensures ∙ ap (λ (x : Bytes). over_at 0 x d) c.frame_start-head.ensures

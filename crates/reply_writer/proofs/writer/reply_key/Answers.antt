@@ -3,5 +3,6 @@ use Rattle.reply_writer.proofs.Frames.{key_steps}
 use Rattle.reply_writer.proofs.writer.reply_key.Goals as goal
 
 pub returns : goal.returns
-returns c = let a = c.args in
+returns c =
+    let a = c.args in
     key_steps a.slot.now a.reply.now c.requires.1 c.put_head.ensures c.put_key.ensures c.requires.0

@@ -17,5 +17,6 @@ pub put_word-requires : goal.put_word-requires
 put_word-requires c = omega (arith, number_few 1 _ c.requires.0, word_most c.args.found)
 
 pub returns : goal.returns
-returns c = let a = c.args in
+returns c =
+    let a = c.args in
     line_there a.i a.found c.put_number-after_index.ensures c.put_word-after_space.ensures c.put_finding-after_word.ensures c.put_word.ensures

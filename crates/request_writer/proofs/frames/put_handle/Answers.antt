@@ -8,6 +8,7 @@ use borrow.Author.Rules.{rules}
 use Rattle.request_writer.proofs.frames.put_handle.Goals as goal
 
 pub returns : goal.returns
-returns c = let a = c.args in
-    head_then a.kind a.kept a.n a.handle a.out.now ((let h : length c.args.handle ≡ handle_size = search rules in
-    omega arith)) c.request_head-head.ensures c.put_bytes.ensures c.put_bytes-2.ensures
+returns c =
+    let a = c.args in
+    head_then a.kind a.kept a.n a.handle a.out.now (let h : length c.args.handle ≡ handle_size = search rules in
+    omega arith) c.request_head-head.ensures c.put_bytes.ensures c.put_bytes-2.ensures

@@ -15,10 +15,10 @@ pub overflow_cast-n : goal.overflow_cast-n
 overflow_cast-n c = omega (arith, (hashes_few c.args.hashes.now (kind_allows (kind_of c.args.kind) (fields_of c.args.p c.args.hashes.now c.args.payload.now)) c.requires))
 
 pub write_right-requires : goal.write_right-requires
-write_right-requires c = omega (arith, (hashes_few c.args.hashes.now (kind_allows (kind_of c.args.kind) (fields_of c.args.p c.args.hashes.now c.args.payload.now)) c.requires), ((install_says (fields_of c.args.p c.args.hashes.now c.args.payload.now) (whole_hashes c.args.hashes.now) c.args.kind c.in-2.is c.requires)).0, payload_short (fields_of c.args.p c.args.hashes.now c.args.payload.now) (whole_hashes c.args.hashes.now) c.args.kind c.in-2.is c.requires)
+write_right-requires c = omega (arith, (hashes_few c.args.hashes.now (kind_allows (kind_of c.args.kind) (fields_of c.args.p c.args.hashes.now c.args.payload.now)) c.requires), (install_says (fields_of c.args.p c.args.hashes.now c.args.payload.now) (whole_hashes c.args.hashes.now) c.args.kind c.in-2.is c.requires).0, payload_short (fields_of c.args.p c.args.hashes.now c.args.payload.now) (whole_hashes c.args.hashes.now) c.args.kind c.in-2.is c.requires)
 
 pub write_word-requires-in-5 : goal.write_word-requires-in-5
-write_word-requires-in-5 c = omega (arith, ((enable_says (fields_of c.args.p c.args.hashes.now c.args.payload.now) (whole_hashes c.args.hashes.now) c.args.kind c.in-5.is c.requires)).0)
+write_word-requires-in-5 c = omega (arith, (enable_says (fields_of c.args.p c.args.hashes.now c.args.payload.now) (whole_hashes c.args.hashes.now) c.args.kind c.in-5.is c.requires).0)
 
 pub write_hashes-requires : goal.write_hashes-requires
 write_hashes-requires c = omega (arith, (hashes_few c.args.hashes.now (kind_allows (kind_of c.args.kind) (fields_of c.args.p c.args.hashes.now c.args.payload.now)) c.requires))
@@ -29,8 +29,9 @@ returns-in-1 c = kind_writes setup_kind (fields_of c.args.p c.args.hashes.now c.
 
 pub returns-in-2 : goal.returns-in-2
 unfolding write_request
-returns-in-2 c = let a = c.args in
-    kind_writes install_kind (fields_of c.args.p c.args.hashes.now c.args.payload.now) c.args.kind c.args.out.now (ap kind_of c.in-2.is) c.requires (right_put a.p a.hashes.now a.payload.now a.out.now ((install_says (fields_of c.args.p c.args.hashes.now c.args.payload.now) (whole_hashes c.args.hashes.now) c.args.kind c.in-2.is c.requires)) ((hashes_few c.args.hashes.now (kind_allows (kind_of c.args.kind) (fields_of c.args.p c.args.hashes.now c.args.payload.now)) c.requires)).0 c.write_right.ensures)
+returns-in-2 c =
+    let a = c.args in
+    kind_writes install_kind (fields_of c.args.p c.args.hashes.now c.args.payload.now) c.args.kind c.args.out.now (ap kind_of c.in-2.is) c.requires (right_put a.p a.hashes.now a.payload.now a.out.now (install_says (fields_of c.args.p c.args.hashes.now c.args.payload.now) (whole_hashes c.args.hashes.now) c.args.kind c.in-2.is c.requires) (hashes_few c.args.hashes.now (kind_allows (kind_of c.args.kind) (fields_of c.args.p c.args.hashes.now c.args.payload.now)) c.requires).0 c.write_right.ensures)
 
 pub returns-in-3 : goal.returns-in-3
 unfolding write_request
@@ -42,8 +43,9 @@ returns-in-4 c = kind_writes rek_kind (fields_of c.args.p c.args.hashes.now c.ar
 
 pub returns-in-5 : goal.returns-in-5
 unfolding write_request
-returns-in-5 c = let a = c.args in
-    kind_writes enable_kind (fields_of c.args.p c.args.hashes.now c.args.payload.now) c.args.kind c.args.out.now (ap kind_of c.in-5.is) c.requires (enable_put a.p a.hashes.now a.payload.now a.out.now ((enable_says (fields_of c.args.p c.args.hashes.now c.args.payload.now) (whole_hashes c.args.hashes.now) c.args.kind c.in-5.is c.requires)) c.write_word-in-5.ensures)
+returns-in-5 c =
+    let a = c.args in
+    kind_writes enable_kind (fields_of c.args.p c.args.hashes.now c.args.payload.now) c.args.kind c.args.out.now (ap kind_of c.in-5.is) c.requires (enable_put a.p a.hashes.now a.payload.now a.out.now (enable_says (fields_of c.args.p c.args.hashes.now c.args.payload.now) (whole_hashes c.args.hashes.now) c.args.kind c.in-5.is c.requires) c.write_word-in-5.ensures)
 
 pub returns-in-6 : goal.returns-in-6
 unfolding write_request
@@ -55,8 +57,9 @@ returns-in-7 c = kind_writes cancel_kind (fields_of c.args.p c.args.hashes.now c
 
 pub returns-in-8 : goal.returns-in-8
 unfolding write_request
-returns-in-8 c = let a = c.args in
-    kind_writes list_kind (fields_of c.args.p c.args.hashes.now c.args.payload.now) c.args.kind c.args.out.now (ap kind_of c.in-8.is) c.requires (list_put a.p a.hashes.now a.payload.now a.out.now ((hashes_few c.args.hashes.now (kind_allows (kind_of c.args.kind) (fields_of c.args.p c.args.hashes.now c.args.payload.now)) c.requires)).0 c.write_hashes.ensures)
+returns-in-8 c =
+    let a = c.args in
+    kind_writes list_kind (fields_of c.args.p c.args.hashes.now c.args.payload.now) c.args.kind c.args.out.now (ap kind_of c.in-8.is) c.requires (list_put a.p a.hashes.now a.payload.now a.out.now (hashes_few c.args.hashes.now (kind_allows (kind_of c.args.kind) (fields_of c.args.p c.args.hashes.now c.args.payload.now)) c.requires).0 c.write_hashes.ensures)
 
 pub returns-in-9 : goal.returns-in-9
 unfolding write_request

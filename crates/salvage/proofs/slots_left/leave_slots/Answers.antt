@@ -10,7 +10,8 @@ use Rattle.salvage.proofs.slots_left.leave_slots.Goals.{then-found-ne-KEPT, else
 use Rattle.salvage.proofs.slots_left.leave_slots.Goals as goal
 
 pub loop-i-init : goal.loop-i-init
-loop-i-init c = let t = c.args.t.now in
+loop-i-init c =
+    let t = c.args.t.now in
     (omega arith, refl, refl, settled_none t c.requires.0, reported_none t c.args.report.now, cleared_none t)
 
 pub settle-found-requires : goal.settle-found-requires
@@ -23,7 +24,8 @@ pub overflow_add-cleared : goal.overflow_add-cleared
 overflow_add-cleared c = omega (arith, c.loop-i.invariant.0, c.loop-i.invariant.5, few_to c.loop-i.i c.args.t.now, at_most_15 c.args.t.now c.requires.0)
 
 pub loop-i-preserved : goal.loop-i-preserved
-loop-i-preserved c = let t = c.args.t.now in
+loop-i-preserved c =
+    let t = c.args.t.now in
     let i = c.loop-i.i in
     let found = c.settle-found.result in
     let u = c.settle-found.new.t in
@@ -41,7 +43,8 @@ loop-i-preserved c = let t = c.args.t.now in
     )
 
 pub returns : goal.returns
-returns c = let t = c.args.t.now in
+returns c =
+    let t = c.args.t.now in
     let i = c.loop-i.i in (
       c.loop-i.invariant.5 ∙ cleared_all t i c.loop-i-test.false,
       c.loop-i.invariant.3 ∙ settled_all t c.requires.0 i c.loop-i-test.false,

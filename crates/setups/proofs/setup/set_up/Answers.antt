@@ -11,12 +11,12 @@ pub returns-then-in_use : goal.returns-then-in_use
 returns-then-in_use c = refused_serves (handle_used _ _ _ _ c.if-n-eq0.false (sym c.in_use.ensures ∙ c.if-in_use.true)) c.reply_status-then-in_use.ensures
 
 pub returns-then-n-table : goal.returns-then-n-table
-returns-then-n-table c = refused_serves (no_room _ _ _ _ c.if-n-eq0.false ((sym c.in_use.ensures ∙ c.if-in_use.false)) _ c.first_empty_from-i.ensures c.if-n-table.true) c.reply_status-then-n-table.ensures
+returns-then-n-table c = refused_serves (no_room _ _ _ _ c.if-n-eq0.false (sym c.in_use.ensures ∙ c.if-in_use.false) _ c.first_empty_from-i.ensures c.if-n-table.true) c.reply_status-then-n-table.ensures
 
 pub store_reservation-requires : goal.store_reservation-requires
 store_reservation-requires c = has_room _ _ c.requires.0 c.args.start c.requires.1 c.args.n _ c.first_empty_from-i.ensures c.if-n-table.false
 
 pub returns : goal.returns
-returns c = done_serves (sets_up _ _ _ _ c.if-n-eq0.false ((sym c.in_use.ensures ∙ c.if-in_use.false)) _ c.first_empty_from-i.ensures c.if-n-table.false)
+returns c = done_serves (sets_up _ _ _ _ c.if-n-eq0.false (sym c.in_use.ensures ∙ c.if-in_use.false) _ c.first_empty_from-i.ensures c.if-n-table.false)
     c.store_reservation.ensures c.reply_status-2.ensures
     (setup_moves _ _ c.args.start c.requires.1 _ _ c.first_empty_from-i.ensures c.if-n-table.false)

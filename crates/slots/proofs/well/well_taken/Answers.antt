@@ -11,7 +11,8 @@ pub returns-then-length-gt-MOST_PAYLOAD : goal.returns-then-length-gt-MOST_PAYLO
 returns-then-length-gt-MOST_PAYLOAD c = sym (too_long c.args.s.now c.requires.2 (omega (arith, c.requires.1.length_is, c.if-length-gt-MOST_PAYLOAD.true)))
 
 pub returns : goal.returns
-returns c = let h = c.requires.1 in
+returns c =
+    let h = c.requires.1 in
     taken_parts c.args.s.now c.requires.0 c.args.head.place c.args.head.hashes c.args.head.length _ _ _
     h.place_is c.requires.2 h.hashes_are h.length_is c.if-hashes-gt-MOST_HASHES.false c.if-length-gt-MOST_PAYLOAD.false
     c.zero_part-gap.ensures (rw c.payload_in-payload.ensures.0 at c.zero_part-rest.ensures) c.awaits_well-awaits.ensures

@@ -9,15 +9,17 @@ pub returns-then-n-gt-MARKS : goal.returns-then-n-gt-MARKS
 returns-then-n-gt-MARKS c = record { sixteen = refl; marks = λ few. absurd (omega (arith, few)); more = λ many. refl }
 
 pub loop-i-preserved : goal.loop-i-preserved
-loop-i-preserved c = let t = c.args.t.now in (
-  omega arith,
-  search rules,
-  rw c.mark_of.ensures
-      (one_more t c.loop-i.marks c.loop-i.i c.loop-i-test.true (omega arith) _ c.slot_at.ensures.0 c.loop-i.invariant.2),
-)
+loop-i-preserved c =
+    let t = c.args.t.now in (
+      omega arith,
+      search rules,
+      rw c.mark_of.ensures
+          (one_more t c.loop-i.marks c.loop-i.i c.loop-i-test.true (omega arith) _ c.slot_at.ensures.0 c.loop-i.invariant.2),
+    )
 
 pub returns : goal.returns
-returns c = let t = c.args.t.now in
+returns c =
+    let t = c.args.t.now in
     record {
       sixteen = c.loop-i.invariant.1;
       marks = λ few. all_there t c.loop-i.marks c.loop-i.i (omega arith) c.loop-i.invariant.2;

@@ -6,12 +6,14 @@ use Rattle.tables.proofs.Turns.{each_pass, each_stop, each_end}
 use Rattle.tables.proofs.table.all_well.Goals as goal
 
 pub returns-then-not-well_slot : goal.returns-then-not-well_slot
-returns-then-not-well_slot c = let well = c.well_slot in
+returns-then-not-well_slot c =
+    let well = c.well_slot in
     let t = c.args.t.now in
     sym (c.loop-i.invariant.1 ∙ each_stop t c.loop-i.i c.loop-i-test.true _ c.slot_at.ensures.0 (well_by c.args.old) (sym well.ensures ∙ c.if-not-well_slot.true))
 
 pub loop-i-preserved : goal.loop-i-preserved
-loop-i-preserved c = let well = c.well_slot in
+loop-i-preserved c =
+    let well = c.well_slot in
     let t = c.args.t.now in
     (omega arith, c.loop-i.invariant.1 ∙ each_pass t c.loop-i.i c.loop-i-test.true _ c.slot_at.ensures.0 (well_by c.args.old) (sym well.ensures ∙ c.if-not-well_slot.false))
 

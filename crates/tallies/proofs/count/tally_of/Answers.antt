@@ -13,8 +13,8 @@ bounds-one-place c = (omega (arith, c.type_inv.s 0))
 pub overflow_add-places : goal.overflow_add-places
 overflow_add-places c = omega (
   arith,
-  ((one_counted c.args.t.now c.requires.1 c.loop-i.i (omega arith) _ c.slot_at-s.ensures.0
-      _ _ _ _ c.slot_place-place.ensures ((omega (arith, c.type_inv.s 0))) refl c.loop-i.invariant.0)).placed,
+  (one_counted c.args.t.now c.requires.1 c.loop-i.i (omega arith) _ c.slot_at-s.ensures.0
+      _ _ _ _ c.slot_place-place.ensures (omega (arith, c.type_inv.s 0)) refl c.loop-i.invariant.0).placed,
   counts_most_15 c.args.t.now c.requires.1 c.requires.0,
 )
 
@@ -22,15 +22,15 @@ pub overflow_add-payload : goal.overflow_add-payload
 overflow_add-payload c = omega (
   arith,
   c.in_sum-payload.ensures,
-  ((one_counted c.args.t.now c.requires.1 c.loop-i.i (omega arith) _ c.slot_at-s.ensures.0
-      _ _ _ _ c.slot_place-place.ensures ((omega (arith, c.shared_slice_known-in-loop-i-1.given 0))) c.word_at.ensures c.loop-i.invariant.0)).most,
+  (one_counted c.args.t.now c.requires.1 c.loop-i.i (omega arith) _ c.slot_at-s.ensures.0
+      _ _ _ _ c.slot_place-place.ensures (omega (arith, c.shared_slice_known-in-loop-i-1.given 0)) c.word_at.ensures c.loop-i.invariant.0).most,
   slots_most_15 c.args.t.now c.requires.1 c.requires.0,
 )
 
 pub loop-i-preserved : goal.loop-i-preserved
 loop-i-preserved c = (
-  rw c.in_sum-payload.ensures ((one_counted c.args.t.now c.requires.1 c.loop-i.i (omega arith) _ c.slot_at-s.ensures.0
-      _ _ _ _ c.slot_place-place.ensures ((omega (arith, c.shared_slice_known-in-loop-i-1.given 0))) c.word_at.ensures c.loop-i.invariant.0)),
+  rw c.in_sum-payload.ensures (one_counted c.args.t.now c.requires.1 c.loop-i.i (omega arith) _ c.slot_at-s.ensures.0
+      _ _ _ _ c.slot_place-place.ensures (omega (arith, c.shared_slice_known-in-loop-i-1.given 0)) c.word_at.ensures c.loop-i.invariant.0),
   omega arith,
 )
 

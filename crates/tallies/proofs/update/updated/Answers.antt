@@ -12,10 +12,10 @@ pub with-requires : goal.with-requires
 with-requires c = then_small c.args.t c.args.change _ _ _ _ c.in-Moved.is c.requires _ c.without.ensures
 
 pub without-requires-in-Returned : goal.without-requires-in-Returned
-without-requires-in-Returned c = was_counted c.args.t (Moved Disabled _ Enabled _) Disabled Enabled _ _ refl ((return_updates c.args.t c.args.change _ _ _ _ c.in-Returned.is c.requires))
+without-requires-in-Returned c = was_counted c.args.t (Moved Disabled _ Enabled _) Disabled Enabled _ _ refl (return_updates c.args.t c.args.change _ _ _ _ c.in-Returned.is c.requires)
 
 pub with-requires-in-Returned : goal.with-requires-in-Returned
-with-requires-in-Returned c = then_small c.args.t (Moved Disabled _ Enabled _) Disabled Enabled _ _ refl ((return_updates c.args.t c.args.change _ _ _ _ c.in-Returned.is c.requires)) _ c.without-in-Returned.ensures
+with-requires-in-Returned c = then_small c.args.t (Moved Disabled _ Enabled _) Disabled Enabled _ _ refl (return_updates c.args.t c.args.change _ _ _ _ c.in-Returned.is c.requires) _ c.without-in-Returned.ensures
 
 pub returns-in-Moved : goal.returns-in-Moved
 returns-in-Moved c = moves c.args.t c.args.change _ _ _ _ c.in-Moved.is c.without.ensures c.with.ensures

@@ -7,7 +7,7 @@ use Rattle.totals.proofs.Bounds.{difference_fits}
 use Rattle.totals.proofs.change.difference.Goals as goal
 
 pub overflow_sub-result : goal.overflow_sub-result
-overflow_sub-result c = rw (unsigned_is c.args.sent (omega arith), unsigned_is c.args.stored (omega arith)) ((difference_fits c.args.sent c.args.stored (omega arith) (omega arith)))
+overflow_sub-result c = rw (unsigned_is c.args.sent (omega arith), unsigned_is c.args.stored (omega arith)) (difference_fits c.args.sent c.args.stored (omega arith) (omega arith))
 
 pub returns : goal.returns
-returns c = rw (unsigned_is c.args.sent (omega arith), unsigned_is c.args.stored (omega arith), to_z-of_z ((difference_fits c.args.sent c.args.stored (omega arith) (omega arith)))) refl
+returns c = rw (unsigned_is c.args.sent (omega arith), unsigned_is c.args.stored (omega arith), to_z-of_z (difference_fits c.args.sent c.args.stored (omega arith) (omega arith))) refl

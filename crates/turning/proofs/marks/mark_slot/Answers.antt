@@ -5,11 +5,13 @@ use Rattle.turning.proofs.Marking.{marked, unmarked}
 use Rattle.turning.proofs.marks.mark_slot.Goals as goal
 
 pub slot_head-requires : goal.slot_head-requires
-slot_head-requires c = let s = c.args.s.now in
+slot_head-requires c =
+    let s = c.args.s.now in
     (omega (arith, c.slot_place-place.ensures, below_256 s c.slice_known-1.given 0), omega (arith, c.slot_hashes-hashes.ensures), omega arith)
 
 pub returns-then-word_at-ne0 : goal.returns-then-word_at-ne0
-returns-then-word_at-ne0 c = let s = c.args.s.now in
+returns-then-word_at-ne0 c =
+    let s = c.args.s.now in
     marked s _ _ _ _ (below_256 s c.slice_known-1.given) c.requires.0 c.requires.1 c.requires.2 c.word_at.ensures c.if-word_at-ne0.true
     c.slot_place-place.ensures c.slot_hashes-hashes.ensures c.slot_head.ensures
 
