@@ -22,7 +22,15 @@ HEAD = re.compile(
 WORDS = {"use", "let", "in", "where", "module", "record", "if", "then", "else"}
 USE = re.compile(r"use\s+(Rattle\.[\w.']+|[\w.']+)\.\{([^}]*)\}")
 # Where a field or a constructor would have a definition's name, or a theorem's.
-SPECIAL = {"for-use": "usable", "no-limit": "unlimited", "same-tally": "tallies_agree"}
+SPECIAL = {
+    "for-use": "usable",
+    "no-limit": "unlimited",
+    "same-tally": "tallies_agree",
+    # the same as a definition that no file with them names
+    "of-kind": "of_kind",
+    "used-up": "used_up",
+    "kept-bit": "kept_bit",
+}
 # Names that port.py gave, which would now have another definition's name: in these files alone, while they have that one's old name.
 BEFORE = {
     "crates/changes/proofs/Images.antt": {"room_fields": "room_fields_lem"},
@@ -87,7 +95,8 @@ def table():
         if "-" in n and (taken[new] > 1 or new in names and n not in SPECIAL and clash(n, new)):
             to[n] = new + "_lem"
     again = collections.Counter(to.values())
-    assert not [n for n, k in again.items() if k > 1], [n for n, k in again.items() if k > 1]
+    said = [n for n, k in again.items() if k > 1 and n not in SPECIAL.values()]
+    assert not said, said
     return to
 
 

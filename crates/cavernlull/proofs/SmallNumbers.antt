@@ -45,22 +45,22 @@ module _ (f : Bytes) where
       let short = leb_le (length f) (6 + most_payload) (and_parts (ltb 6 (length f)) (leb (length f) (6 + most_payload)) all.0).1 in
       (omega arith, omega (arith, short))
 
-  of_kind_lem : (k : Kind) → shaped k f ≡ true → SmallTold (told_shaped k f)
+  of_kind : (k : Kind) → shaped k f ≡ true → SmallTold (told_shaped k f)
   unfolding keyless right_in key_in list_in info_in
-  of_kind_lem setup_kind e = tt
-  of_kind_lem install_kind e = tt
-  of_kind_lem retrieve_kind e = right_small e
-  of_kind_lem rek_kind e = tt
-  of_kind_lem enable_kind e = tt
-  of_kind_lem remove_kind e = tt
-  of_kind_lem cancel_kind e = tt
-  of_kind_lem list_kind e = list_small e
-  of_kind_lem info_kind e = info_small e
+  of_kind setup_kind e = tt
+  of_kind install_kind e = tt
+  of_kind retrieve_kind e = right_small e
+  of_kind rek_kind e = tt
+  of_kind enable_kind e = tt
+  of_kind remove_kind e = tt
+  of_kind cancel_kind e = tt
+  of_kind list_kind e = list_small e
+  of_kind info_kind e = info_small e
 
   of_success : (k : Option Kind) → SmallTold (told_success k f)
   unfolding keyless
   of_success none = tt
-  of_success (some k) = if_cases SmallTold (shaped k f) (of_kind_lem k) (λ _. tt)
+  of_success (some k) = if_cases SmallTold (shaped k f) (of_kind k) (λ _. tt)
 
   told_small : SmallTold (told f)
   unfolding told keyless

@@ -7,4 +7,4 @@ use Rattle.profile.specs.RequestCases
 pub requests_hold : RequestCases.Hold
 unfolding RequestCases.requests RequestCases.no_frames RequestCases.heads RequestCases.kinds RequestCases.lengths
     RequestCases.verdicts RequestCases.field_tests RequestCases.cases read_request write_request frame
-requests_hold = record { lengths_fit = refl; verdict_bit = refl; kept_bit_lem = refl; zero_bits_lem = refl; zero_bits_6 = refl; versions = refl; kind_bits = refl; hash_counts = refl; some_hash = refl; read = refl; write = refl }
+requests_hold = record { lengths_fit = refl; verdict_bit = refl; kept_bit = refl; zero_bits_lem = refl; zero_bits_6 = refl; versions = refl; kind_bits = refl; hash_counts = refl; some_hash = refl; read = refl; write = refl }

@@ -95,7 +95,7 @@ pub record Hold : Type 0 where
   pub sent_again : last_count H2 true (Kept 7) (take 4 later) ≡ Kept 3
   pub no_longer : last_count H1 true (Kept 7) (asking (remove H1) 0 ∷ asking (enable H1 (Kept 3)) 0 ∷ []) ≡ Kept 7
   -- used up, a count is kept still; returned without one, none is
-  pub used_up_lem : last_count H2 true (Kept 1) (asking (enable H2 (Kept 0)) 0 ∷ []) ≡ Kept 0
+  pub used_up : last_count H2 true (Kept 1) (asking (enable H2 (Kept 0)) 0 ∷ []) ≡ Kept 0
   pub given_up : last_count H2 true (Kept 1) (asking (enable H2 NoneKept) 0 ∷ []) ≡ NoneKept
   pub holds : map held (for_use H1 plain ∷ lent H1 other ∷ gone plain ∷ []) ≡ plain ∷ other ∷ plain ∷ []
   -- an enabled and a disabled record with other keys, beside an empty slot and a reservation

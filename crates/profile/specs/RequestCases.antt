@@ -256,7 +256,7 @@ pub record Hold : Type 0 where
   pub lengths_fit : map (λ k. map (body_fits k.0) k.1) bodies ≡ map (λ k. k.2) bodies
   -- PROFILE 3.1: the verdict bit, the bit of a count, and the zero bits, of which kinds 2 and 5 have one less
   pub verdict_bit : map verdict (hex "21 00" ∷ hex "21 7F" ∷ hex "21 80" ∷ hex "21 FF" ∷ []) ≡ 0 ∷ 0 ∷ 1 ∷ 1 ∷ []
-  pub kept_bit_lem : map kept_asked (hex "22 80" ∷ hex "22 C0" ∷ hex "22 40" ∷ hex "25 BF" ∷ hex "25 FF" ∷ []) ≡ 0 ∷ 1 ∷ 1 ∷ 0 ∷ 1 ∷ []
+  pub kept_bit : map kept_asked (hex "22 80" ∷ hex "22 C0" ∷ hex "22 40" ∷ hex "25 BF" ∷ hex "25 FF" ∷ []) ≡ 0 ∷ 1 ∷ 1 ∷ 0 ∷ 1 ∷ []
   pub zero_bits_lem : map zero_bits (hex "21 00" ∷ hex "21 80" ∷ hex "21 81" ∷ hex "21 40" ∷ []) ≡ true ∷ true ∷ false ∷ false ∷ []
   pub zero_bits_6 : map zero_bits (hex "22 40" ∷ hex "22 C0" ∷ hex "22 E0" ∷ hex "25 80" ∷ hex "25 40" ∷ hex "25 41" ∷ hex "26 40" ∷ hex "20 40" ∷ hex "2A C0" ∷ [])
       ≡ true ∷ true ∷ false ∷ true ∷ true ∷ false ∷ false ∷ false ∷ false ∷ []

@@ -71,11 +71,11 @@ pub record Stays (table : Bytes) : Type 0 where
 
 -- what the device's writer leaves with the number 0: the frame of the fields at the start of the buffer, which fits it and reads back to the fields
 pub record ReadsBack (kind : ℕ) (f : Fields) (buffer : Bytes) (o : Written) : Type 0 where
-  pub of_kind_lem : Kind
-  pub number : kind_of kind ≡ some of_kind_lem
-  pub starts : o.buffer ≡ over (write_request (request_of of_kind_lem f)) buffer
-  pub short : length (write_request (request_of of_kind_lem f)) ≤ length buffer
-  pub read : read_request (write_request (request_of of_kind_lem f)) ≡ asks (request_of of_kind_lem f)
+  pub of_kind : Kind
+  pub number : kind_of kind ≡ some of_kind
+  pub starts : o.buffer ≡ over (write_request (request_of of_kind f)) buffer
+  pub short : length (write_request (request_of of_kind f)) ≤ length buffer
+  pub read : read_request (write_request (request_of of_kind f)) ≡ asks (request_of of_kind f)
 
 -- the device's writer, given the fields that a frame f was read to, in arrays of their lengths, writes f again: in kinds 1 to 7 the same bytes, and
 -- in every kind the same but for a verdict of 0, which becomes 1

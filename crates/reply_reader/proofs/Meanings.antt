@@ -73,23 +73,23 @@ module _ (f : Bytes) where
   info_given : counted (count_from 4 f) (part 6 (length f - 6) f) ≡ given info_kind f
   info_given = ap₂ (λ (a : Count) (b : Bytes). counted a b) (ap (count_with (kept_in f)) (sym (body_word f 0))) (to_the_end 6 ∙ sym (body_drop 2))
 
-  of_kind_lem : (k : Kind) → number_of (fields k f) ≡ kind_number f → shaped k f ≡ true → meaning f (told_shaped k f) ≡ gave (kind_number f) (given k f)
+  of_kind : (k : Kind) → number_of (fields k f) ≡ kind_number f → shaped k f ≡ true → meaning f (told_shaped k f) ≡ gave (kind_number f) (given k f)
   unfolding keyless right_in key_in list_in info_in
-  of_kind_lem setup_kind n s = ap (λ (k : ℕ). gave k nothing) n
-  of_kind_lem install_kind n s = ap (λ (k : ℕ). gave k nothing) n
-  of_kind_lem retrieve_kind n s = ap₂ (λ (k : ℕ) (g : Given). gave k g) n right_given
-  of_kind_lem rek_kind n s = ap₂ (λ (k : ℕ) (g : Given). gave k g) n (key_given s)
-  of_kind_lem enable_kind n s = ap (λ (k : ℕ). gave k nothing) n
-  of_kind_lem remove_kind n s = ap (λ (k : ℕ). gave k nothing) n
-  of_kind_lem cancel_kind n s = ap (λ (k : ℕ). gave k nothing) n
-  of_kind_lem list_kind n s = ap₂ (λ (k : ℕ) (g : Given). gave k g) n (list_given s)
-  of_kind_lem info_kind n s = ap₂ (λ (k : ℕ) (g : Given). gave k g) n info_given
+  of_kind setup_kind n s = ap (λ (k : ℕ). gave k nothing) n
+  of_kind install_kind n s = ap (λ (k : ℕ). gave k nothing) n
+  of_kind retrieve_kind n s = ap₂ (λ (k : ℕ) (g : Given). gave k g) n right_given
+  of_kind rek_kind n s = ap₂ (λ (k : ℕ) (g : Given). gave k g) n (key_given s)
+  of_kind enable_kind n s = ap (λ (k : ℕ). gave k nothing) n
+  of_kind remove_kind n s = ap (λ (k : ℕ). gave k nothing) n
+  of_kind cancel_kind n s = ap (λ (k : ℕ). gave k nothing) n
+  of_kind list_kind n s = ap₂ (λ (k : ℕ) (g : Given). gave k g) n (list_given s)
+  of_kind info_kind n s = ap₂ (λ (k : ℕ) (g : Given). gave k g) n info_given
 
   -- ---- a frame
   of_success : (k : Option Kind) → kind_of (kind_number f) ≡ k → meaning f (told_success k f) ≡ read_success k f
   unfolding keyless
   of_success none e = refl
-  of_success (some k) e = if_map (meaning f) (shaped k f) (of_kind_lem k (kind_number_lem (kind_number f) k e f)) (λ _. refl)
+  of_success (some k) e = if_map (meaning f) (shaped k f) (of_kind k (kind_number_lem (kind_number f) k e f)) (λ _. refl)
 
   pub told_means : meaning f (told f) ≡ read_reply f
   unfolding told read_reply keyless

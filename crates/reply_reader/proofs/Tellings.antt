@@ -40,8 +40,8 @@ module _ (k : Kind) (f : Bytes) {p : Bool} {r : Told} (e : p ≡ shaped k f) whe
   is_shaped h q = q ∙ rw (passed e h)
 
 -- ---- by kind
-pub of_kind_lem : {kind : ℕ} (n : ℕ) (f : Bytes) {r : Told} → kind ≡ n → r ≡ told_success (kind_of n) f → r ≡ told_success (kind_of kind) f
-of_kind_lem n f e q = q ∙ ap (λ (k : ℕ). told_success (kind_of k) f) (sym e)
+pub of_kind : {kind : ℕ} (n : ℕ) (f : Bytes) {r : Told} → kind ≡ n → r ≡ told_success (kind_of n) f → r ≡ told_success (kind_of kind) f
+of_kind n f e q = q ∙ ap (λ (k : ℕ). told_success (kind_of k) f) (sym e)
 
 -- what the last arm of a `match` on 1 to n says: none of them
 abbrev NoneTo : ℕ → ℕ → Type 0

@@ -18,19 +18,19 @@ use Rattle.request_writer.specs.Writing.{wrote}
 
 -- the first `size` bytes of the buffer y read back to the fields f, and the others are those of d
 pub record Back (kind : ℕ) (f : Fields) (d y : Bytes) : Type 0 where
-  pub of_kind_lem : Kind
-  pub number : kind_of kind ≡ some of_kind_lem
+  pub of_kind : Kind
+  pub number : kind_of kind ≡ some of_kind
   pub size : ℕ
   pub short : size ≤ length d
-  pub frame : take size y ≡ write_request (request_of of_kind_lem f)
-  pub read : read_request (take size y) ≡ asks (request_of of_kind_lem f)
+  pub frame : take size y ≡ write_request (request_of of_kind f)
+  pub read : read_request (take size y) ≡ asks (request_of of_kind f)
   pub others : drop size y ≡ drop size d
 
 pub reads_back : (kind : ℕ) (f : Fields) (d y : Bytes) → Arrays f → wrote 0 y ≡ write kind f d → Back kind f d y
 unfolding over
 reads_back kind f d y a e =
     record {
-      of_kind_lem = b.of_kind_lem;
+      of_kind = b.of_kind;
       number = b.number;
       size = length w;
       short = b.short;
@@ -43,7 +43,7 @@ reads_back kind f d y a e =
     b = written_reads kind f d a (ap (λ (o : Written). eqb o.number 0) (sym e))
 
     w : Bytes
-    w = write_request (request_of b.of_kind_lem f)
+    w = write_request (request_of b.of_kind f)
 
     is : y ≡ over w d
     is = ap (λ (o : Written). o.buffer) e ∙ b.starts
@@ -52,5 +52,5 @@ reads_back kind f d y a e =
     first = ap (take (length w)) is ∙ take_at w (drop (length w) d) (length w) refl
 
 -- so the reader's answer to those bytes means the fields
-pub answer_back : (kind : ℕ) (f : Fields) (d y : Bytes) (b : Back kind f d y) (r : Asked) → Answers (take b.size y) r → meaning (take b.size y) r ≡ asks (request_of b.of_kind_lem f)
+pub answer_back : (kind : ℕ) (f : Fields) (d y : Bytes) (b : Back kind f d y) (r : Asked) → Answers (take b.size y) r → meaning (take b.size y) r ≡ asks (request_of b.of_kind f)
 answer_back kind f d y b r a = a.means ∙ b.read
