@@ -80,7 +80,7 @@ def declared():
 
 
 def snake(name):
-    split = re.sub(r"(?<=[a-z0-9'])(?=[A-Z])", "_", name).replace("-", "_")
+    split = re.sub(r"(?<=[a-z0-9'])(?=[A-Z])|(?<=[A-Z])(?=[A-Z][a-z])", "_", name).replace("-", "_")
     return split if name[0].isupper() else split.lower()
 
 

@@ -1,7 +1,7 @@
 -- A reply as C has it: a key, and eleven numbers.
 use Rattle.std.specs.Prelude.{ℕ, ◌<◌, ◌≡◌, List, [], ◌∷◌, Bool, cond}
 use Rattle.profile.specs.Bytes.{Bytes}
-use Rattle.profile.specs.Sizes.{not_areply}
+use Rattle.profile.specs.Sizes.{not_a_reply}
 use Rattle.profile.specs.Slot.{Count, kept_bit, count_number}
 use Rattle.profile.specs.Device.{read_reply}
 use Rattle.reply_reader.specs.declared.answer.Answer.{Answer}
@@ -52,7 +52,7 @@ left n key fields = record { number = n; key = key; fields = fields }
 
 -- 203 leaves the key and the numbers as they were
 abbrev pub leaves : Bytes → List ℕ → Bytes → Answer → Left
-leaves key fields k Malformed = left not_areply key fields
+leaves key fields k Malformed = left not_a_reply key fields
 leaves key fields k (Failed kind status) = left 0 k (of_status kind status)
 leaves key fields k (Nothing kind) = left 0 k (of_status kind 0)
 leaves key fields k (Right count n hashes at size) = left 0 k (of_right count n hashes at size)

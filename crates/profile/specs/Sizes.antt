@@ -71,8 +71,8 @@ table_not_well_formed = 103
 abbrev pub tally_differs : ℕ
 tally_differs = 106
 
-abbrev pub not_aframe : ℕ
-not_aframe = 104
+abbrev pub not_a_frame : ℕ
+not_a_frame = 104
 
 -- ---- the salvage's own number
 abbrev pub report_buffer_short : ℕ
@@ -95,5 +95,5 @@ writer_buffer_short = 201
 abbrev pub writer_fields : ℕ
 writer_fields = 202
 
-abbrev pub not_areply : ℕ
-not_areply = 203
+abbrev pub not_a_reply : ℕ
+not_a_reply = 203

@@ -7,7 +7,7 @@ use lib.Dec.{leb, eqb}
 use lib.ListN.{length}
 use Rattle.std.specs.Prelude.{if◌then◌else◌}
 use Rattle.profile.specs.Bytes.{Bytes, word, over}
-use Rattle.profile.specs.Sizes.{not_aframe}
+use Rattle.profile.specs.Sizes.{not_a_frame}
 use Rattle.profile.specs.Frame.{kind_number, frame, is_frame, version_holds, kind_of, Refusal, parameter, code}
 use Rattle.profile.specs.Request.{Read, asks, refused, no_frame, zero_bits, read_kind, read_request}
 use Rattle.profile.specs.Tally.{Tally}
@@ -39,7 +39,7 @@ long_read f =
 pub refused_long : (f : Bytes) (w : Why) (x : Refusal) → why_means w ≡ read_request f → why_means w ≡ refused x → 4 ≤ length f
 refused_long f w x e d = rw (sym e ∙ d) at (long_read f)
 
-pub refuses_no_frame : (f buffer : Bytes) (w : Why) → w ≡ NoFrame → Refuses f w buffer not_aframe buffer
+pub refuses_no_frame : (f buffer : Bytes) (w : Why) → w ≡ NoFrame → Refuses f w buffer not_a_frame buffer
 refuses_no_frame f buffer w e = record { on_any = λ free t table c b _. rw (e, ← b) refl }
 
 pub refuses_with : (f buffer : Bytes) (w : Why) (x : Refusal) (n : ℕ) (buffer' : Bytes) → why_means w ≡ refused x → n ≡ 0

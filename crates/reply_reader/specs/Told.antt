@@ -2,7 +2,7 @@
 use Rattle.std.specs.Prelude.{ℕ, ◌+◌, ◌-◌, ◌*◌, ◌/◌, ◌≡◌, ◌&&◌, not, length, drop, replicate, eqb, if◌then◌else◌}
 use Rattle.std.proofs.Math.Option.{Option, none, some}
 use Rattle.profile.specs.Bytes.{Bytes, byte, part, word, pieces}
-use Rattle.profile.specs.Sizes.{handle_size, key_size, hash_size, not_areply}
+use Rattle.profile.specs.Sizes.{handle_size, key_size, hash_size, not_a_reply}
 use Rattle.profile.specs.Slot.{Count, count_with, right_with}
 use Rattle.profile.specs.Frame.{Kind, setup_kind, install_kind, retrieve_kind, rek_kind, enable_kind, remove_kind, cancel_kind, list_kind, info_kind, kind_of, is_status, is_frame, version_holds, kind_number, body, kept_in, status_in}
 use Rattle.profile.specs.Agent.{nothing, the_right, the_key, handles, counted}
@@ -14,7 +14,7 @@ use Rattle.reply_reader.specs.declared.answer.Told.{Told}
 -- ---- what each case of an answer means
 -- the number of an answer, and of a reply: 203 where it is refused
 abbrev pub number : Answer → ℕ
-number Malformed = not_areply
+number Malformed = not_a_reply
 number (Failed kind status) = 0
 number (Nothing kind) = 0
 number (Right count n hashes at size) = 0
@@ -23,7 +23,7 @@ number (Handles more n at) = 0
 number (Counted count at size) = 0
 
 abbrev pub refusal : Reply → ℕ
-refusal malformed = not_areply
+refusal malformed = not_a_reply
 refusal (failed kind status) = 0
 refusal (gave kind g) = 0
 
