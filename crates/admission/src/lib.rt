@@ -11,6 +11,7 @@ use profile::number::{
 use profile::sizes::{REPLY_ROOM, SLOT_BYTES};
 
 // 101, 102, 105, 103 and 106, tested in this order; 0 where none of them is given (PROFILE 4.1).
+#[inline(never)]
 pub fn tested(table: &[u8], tally: Tally, start: usize, reply: &[u8]) -> u16
     ensures { result ≡ tests_of table.now tally start reply.now }
 {

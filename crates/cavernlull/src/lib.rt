@@ -6,7 +6,7 @@
 use crate::numbers::REPLY_NUMBERS;
 use listing::LISTING_ROOM;
 use profile::Tally;
-use profile::number::DONE;
+use profile::number::{DONE, TOTAL_OUTSIDE};
 use profile::sizes::{HANDLE_BYTES, KEY_BYTES};
 use request_fields::Plain;
 
@@ -19,7 +19,7 @@ ghost use Rattle.profile.specs.Device.{fields_with, write};
 ghost use Rattle.profile.specs.Listing.{listing};
 ghost use Rattle.profile.specs.Salvage.{salvage as salvage_of};
 ghost use Rattle.profile.specs.Tally.{tallied, work_out};
-ghost use Rattle.profile.specs.Total.{totals_with, totalling};
+ghost use Rattle.profile.specs.Total.{totals_with, totals_hold, totalling};
 ghost use Rattle.profile.specs.Turning.{turn as turn_of};
 ghost use Rattle.serving.specs.Call.{outcome, call_of};
 ghost use Rattle.request_writer.specs.Writing.{wrote};
@@ -46,6 +46,15 @@ pub extern "C" fn cavernlull_call(
     done.number
 }
 
+// Whether there is room for one more return in the totals (PROFILE 4.5). It looks at them where they lie, so that the totalling call keeps
+// no copy of them on the stack.
+#[inline(never)]
+fn has_room(total: &i32, returns: &u16) -> bool
+    ensures { result ≡ totals_hold (totals_with total.now returns.now) }
+{
+    totals::total::holds(*total, *returns)
+}
+
 // The totalling call (PROFILE 4.5): one call, and what its return did to a count, added to a running total. With 108 nothing is changed. With
 // every other number but 0 total and returns stay, and the change is 0.
 #[unsafe(no_mangle)]
@@ -61,9 +70,10 @@ pub extern "C" fn cavernlull_call_totalling(
 ) -> u16
     ensures { totalled (outcome result reply.new table.new tally.new) total.new returns.new change.new ≡ totalling table.old (call_of tally.old start frame.now reply.old) (totals_with total.old returns.old) change.old }
 {
-    let totalled = totals::call_totalling(
-        table, *tally, start, frame, reply, total, returns, change,
-    );
+    if !has_room(total, returns) {
+        return TOTAL_OUTSIDE;
+    }
+    let totalled = totals::counted_call(table, *tally, start, frame, reply, total, returns, change);
     *tally = totalled.tally;
     totalled.number
 }

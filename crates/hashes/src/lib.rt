@@ -14,14 +14,14 @@ use slots::place::Place;
 mod reader; // reader.rt: the hashes of a record, one at a time
 
 // Whether a query's hash is one of the record's, which are read from the slot one after another, without a copy of the list.
-fn has_hash(bytes: &[u8], count: usize, asked: [u8; HASH_BYTES]) -> bool
+fn has_hash(bytes: &[u8], count: usize, asked: &[u8; HASH_BYTES]) -> bool
     requires { hash_size * count ≤ length bytes.now }
-    ensures { result ≡ any (same asked) (pieces hash_size count bytes.now) }
+    ensures { result ≡ any (same asked.now) (pieces hash_size count bytes.now) }
 {
     let mut i = 0;
     while i < count {
         let hash = crate::reader::hash_of(bytes, i);
-        if octets::compare::same_from(&asked, &hash, 0) {
+        if octets::compare::same_from(asked, &hash, 0) {
             return true;
         }
         i += 1;
@@ -36,7 +36,7 @@ fn has_one_of(bytes: &[u8], count: usize, q: &[[u8; HASH_BYTES]]) -> bool
 {
     let mut k = 0;
     while k < q.len() {
-        if has_hash(bytes, count, q[k]) {
+        if has_hash(bytes, count, &q[k]) {
             return true;
         }
         k += 1;

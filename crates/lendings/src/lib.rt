@@ -18,6 +18,7 @@ use slots::place::Place;
 use tallies::update::Change;
 
 // The reply at success, from the record's slot: kind 3 has the whole right and says whether it keeps a count, kind 4 has its key (PROFILE 3.2, 3.4).
+#[inline(always)]
 fn reply_lent(reply: &mut [u8], slot: &[u8], kind: u8)
     requires { (3 ≤ kind) × (kind ≤ 4) × (reply_room ≤ length reply.old) × (length slot.now ≡ slot_size) × (hash_count_of slot.now ≤ most_hashes) × (length_of slot.now ≤ most_payload) }
     ensures { reply.new ≡ over (frame kind (128 * given_bit (lent_by kind (right_of slot.now))) (write_given (lent_by kind (right_of slot.now)))) reply.old }
@@ -31,6 +32,7 @@ fn reply_lent(reply: &mut [u8], slot: &[u8], kind: u8)
 
 // PROFILE 5.3 and 5.4. The reply is written first, while the slot is as it was; then the record gets the new handle and is
 // disabled, and nothing else of it changes.
+#[inline(always)]
 pub fn lend(
     table: &mut [u8],
     reply: &mut [u8],

@@ -35,12 +35,12 @@ fn put_next(reply: &mut [u8], slot: &[u8], k: usize, most: usize)
 pub(crate) fn put_handles(
     table: &[u8],
     reply: &mut [u8],
-    query: [[u8; HASH_BYTES]; MOST_HASHES],
+    query: &[[u8; HASH_BYTES]; MOST_HASHES],
     hashes: usize,
     most: usize,
 ) -> usize
     requires { Ready table.now reply.old × (hashes ≤ most_hashes) }
-    ensures { (result ≡ length (listed (take hashes query) (slots_of table.now))) × (reply.new ≡ holding (take most (listed (take hashes query) (slots_of table.now))) reply.old) }
+    ensures { (result ≡ length (listed (take hashes query.now) (slots_of table.now))) × (reply.new ≡ holding (take most (listed (take hashes query.now) (slots_of table.now))) reply.old) }
 {
     let n = table.len() / SLOT_BYTES;
     let mut found = 0;

@@ -27,7 +27,7 @@ pub fn handle_list(
 {
     let query = octets::arrays::hashes_at(frame, at, hashes);
     let most = handles::most_handles(limit);
-    let found = handles::put_handles(table, reply, query, hashes, most);
+    let found = handles::put_handles(table, reply, &query, hashes, most);
     if found <= most {
         list_replies::close_list(reply, found, false);
     } else {

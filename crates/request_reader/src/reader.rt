@@ -87,8 +87,11 @@ fn read_setup(f: &[u8], n: usize, verdict: u8) -> Asked
     if n != 12 {
         return crate::asked::refuse(Why::Parameter);
     }
+    if verdict == 0 {
+        return crate::asked::refuse(Why::Integrity);
+    }
     let length = words::word_at(f, 14);
-    read_one(f, n, 12, verdict, Body::Setup { length: length })
+    crate::asked::with_handle(f, Count::NoneKept, Body::Setup { length: length })
 }
 
 // The field test of kind 5 (PROFILE 5.5), on a body of 12 bytes: without the bit, the number of the count is 0.

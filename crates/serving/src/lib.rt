@@ -5,7 +5,7 @@ ghost use Rattle.std.specs.Prelude.{◌≡◌, ◌<◌, ◌≤◌};
 ghost use Rattle.profile.specs.Table.{slot_count, slots_of};
 ghost use Rattle.profile.specs.Frame.{kind_number};
 ghost use Rattle.profile.specs.Agent.{first_empty_from};
-ghost use Rattle.request_reader.specs.Answer.{body_means};
+ghost use Rattle.request_reader.specs.Answer.{Answers, body_means};
 ghost use Rattle.decisions.specs.Serving.{Ready, Serves, answer_at, answer_to};
 ghost use Rattle.serving.specs.Obeying.{why_of, lends_by, Asks, Obeys};
 
@@ -25,9 +25,10 @@ fn why_of(ask: Ask) -> Why
 }
 
 // Kinds 3 and 4, by their number. The handles are locals of this function and not of `serve`: there they would take stack in every call.
-fn lend(table: &mut [u8], reply: &mut [u8], asked: Asked, kind: u8) -> Change
+#[inline(always)]
+fn lend(table: &mut [u8], reply: &mut [u8], asked: &Asked, kind: u8) -> Change
     requires { Ready table.old reply.old × (3 ≤ kind) × (kind ≤ 4) }
-    ensures { Serves kind (answer_to table.old (lends_by kind asked.handle asked.new)) table.old reply.old table.new reply.new result }
+    ensures { Serves kind (answer_to table.old (lends_by kind asked.now.handle asked.now.new)) table.old reply.old table.new reply.new result }
 {
     let h = asked.handle;
     let k = asked.new;
@@ -40,11 +41,11 @@ fn serve(
     start: usize,
     frame: &[u8],
     reply: &mut [u8],
-    asked: Asked,
+    asked: &Asked,
     body: Body,
 ) -> Change
-    requires { Ready table.old reply.old × (start < slot_count table.old) × Asks frame.now asked body }
-    ensures { Serves (kind_number frame.now) (answer_at (first_empty_from start (slots_of table.old)) table.old (body_means frame.now body asked)) table.old reply.old table.new reply.new result }
+    requires { Ready table.old reply.old × (start < slot_count table.old) × Asks frame.now asked.now body }
+    ensures { Serves (kind_number frame.now) (answer_at (first_empty_from start (slots_of table.old)) table.old (body_means frame.now body asked.now)) table.old reply.old table.new reply.new result }
 {
     let kind = match body {
         Body::Setup { length } => {
@@ -92,12 +93,17 @@ pub struct Answered {
     pub change: Change,
 }
 
-// On a well-formed table: 104, or 0 with a status or what the request does. The tally is not looked at: it follows from the change.
-pub fn answer(table: &mut [u8], start: usize, frame: &[u8], reply: &mut [u8]) -> Answered
-    requires { Ready table.old reply.old × (start < slot_count table.old) }
+// What comes of a frame that was read. What was read is lent, and a local of none of these functions, so that it takes its place once.
+fn answer_asked(
+    table: &mut [u8],
+    start: usize,
+    frame: &[u8],
+    reply: &mut [u8],
+    asked: &Asked,
+) -> Answered
+    requires { Ready table.old reply.old × (start < slot_count table.old) × Answers frame.now asked.now }
     ensures { Obeys table.old start frame.now reply.old table.new reply.new result.number result.change }
 {
-    let asked = request_reader::reader::read_request(frame);
     let ask = asked.ask;
     let Ask::Yes(body) = ask else {
         let number = refusals::refuse(frame, reply, why_of(ask));
@@ -111,4 +117,18 @@ pub fn answer(table: &mut [u8], start: usize, frame: &[u8], reply: &mut [u8]) ->
         number: DONE,
         change: change,
     }
+}
+
+// On a well-formed table: 104, or 0 with a status or what the request does. The tally is not looked at: it follows from the change.
+pub fn answer(table: &mut [u8], start: usize, frame: &[u8], reply: &mut [u8]) -> Answered
+    requires { Ready table.old reply.old × (start < slot_count table.old) }
+    ensures { Obeys table.old start frame.now reply.old table.new reply.new result.number result.change }
+{
+    answer_asked(
+        table,
+        start,
+        frame,
+        reply,
+        &request_reader::reader::read_request(frame),
+    )
 }

@@ -7,13 +7,42 @@ use profile::{Tallied, Tally};
 pub mod change; // change.rt: what a return did to a count
 pub mod total; // total.rt: a total, its bounds, and one change added
 
-ghost use Rattle.std.specs.Prelude.{◌≡◌};
-ghost use Rattle.profile.specs.Total.{totals_with, totalling};
+ghost use Rattle.std.specs.Prelude.{◌≡◌, true};
+ghost use Rattle.profile.specs.Total.{totals_with, totals_hold, totalling};
 ghost use Rattle.serving.specs.Call.{outcome, call_of};
 ghost use Rattle.totals.specs.Returns.{totalled};
 
-// PROFILE 4.5. 108 before all other numbers, with nothing changed; otherwise the call, and what its return did to the count. The counts come
-// with what the call did to the slots, so that nothing is looked up for them.
+// The call where 108 is not given: what its return did to the count is added. The counts come with what the call did to the slots, so that
+// nothing is looked up for them.
+pub fn counted_call(
+    table: &mut [u8],
+    tally: Tally,
+    start: usize,
+    frame: &[u8],
+    reply: &mut [u8],
+    total: &mut i32,
+    returns: &mut u16,
+    change: &mut i32,
+) -> Tallied
+    requires { totals_hold (totals_with total.old returns.old) ≡ true }
+    ensures { totalled (outcome result.number reply.new table.new result.tally) total.new returns.new change.new ≡ totalling table.old (call_of tally start frame.now reply.old) (totals_with total.old returns.old) change.old }
+{
+    let called = agent::call_and_tell(table, tally, start, frame, reply);
+    let told = called.change;
+    let sum = crate::total::with_return(*total, *returns, told);
+    let summed = sum.total;
+    let by = sum.change;
+    *total = summed;
+    *returns = sum.returns;
+    *change = by;
+    let after = called.tally;
+    Tallied {
+        number: called.number,
+        tally: after,
+    }
+}
+
+// PROFILE 4.5. 108 before all other numbers, with nothing changed; otherwise the call, and what its return did to the count.
 pub fn call_totalling(
     table: &mut [u8],
     tally: Tally,
@@ -32,17 +61,5 @@ pub fn call_totalling(
             tally: tally,
         };
     }
-    let called = agent::call_and_tell(table, tally, start, frame, reply);
-    let told = called.change;
-    let sum = crate::total::with_return(*total, *returns, told);
-    let summed = sum.total;
-    let by = sum.change;
-    *total = summed;
-    *returns = sum.returns;
-    *change = by;
-    let after = called.tally;
-    Tallied {
-        number: called.number,
-        tally: after,
-    }
+    counted_call(table, tally, start, frame, reply, total, returns, change)
 }

@@ -16,18 +16,18 @@ hash_of-hash-requires c = omega arith
 pub returns-then-same_from : goal.returns-then-same_from
 returns-then-same_from c =
     let a = c.args in
-    sym (c.loop-i.invariant.1 ∙ any_stop (same a.asked) (hashes_step a.bytes.now a.count c.loop-i.i (omega arith))
-    (hash_compared a.asked _ _ (search rules) (search rules) c.hash_of-hash.ensures c.same_from.ensures ∙ c.if-same_from.true))
+    sym (c.loop-i.invariant.1 ∙ any_stop (same a.asked.now) (hashes_step a.bytes.now a.count c.loop-i.i (omega arith))
+    (hash_compared a.asked.now _ _ (search rules) (search rules) c.hash_of-hash.ensures c.same_from.ensures ∙ c.if-same_from.true))
 
 pub loop-i-preserved : goal.loop-i-preserved
 loop-i-preserved c =
     let a = c.args in (
-      omega arith,
-      c.loop-i.invariant.1 ∙ any_pass (same a.asked) (hashes_step a.bytes.now a.count c.loop-i.i (omega arith))
-          (hash_compared a.asked _ _ (search rules) (search rules) c.hash_of-hash.ensures c.same_from.ensures ∙ c.if-same_from.false),
-    )
+  omega arith,
+  c.loop-i.invariant.1 ∙ any_pass (same a.asked.now) (hashes_step a.bytes.now a.count c.loop-i.i (omega arith))
+      (hash_compared a.asked.now _ _ (search rules) (search rules) c.hash_of-hash.ensures c.same_from.ensures ∙ c.if-same_from.false),
+)
 
 pub returns : goal.returns
 returns c =
     let a = c.args in
-    sym (c.loop-i.invariant.1 ∙ ap (any (same a.asked)) (hashes_end a.bytes.now a.count c.loop-i.i (omega arith)))
+    sym (c.loop-i.invariant.1 ∙ ap (any (same a.asked.now)) (hashes_end a.bytes.now a.count c.loop-i.i (omega arith)))

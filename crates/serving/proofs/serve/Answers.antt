@@ -16,7 +16,7 @@ returns-in-Setup c = served_at c.requires.2 _ c.in-Setup.is c.set_up.ensures
 
 pub install-requires : goal.install-requires
 install-requires c =
-    let w = install_within c.args.frame.now c.args.asked c.requires.2.answers _ _ _ (c.requires.2.yes ∙ ap Yes c.in-Install.is) in
+    let w = install_within c.args.frame.now c.args.asked.now c.requires.2.answers _ _ _ (c.requires.2.yes ∙ ap Yes c.in-Install.is) in
     (c.requires.0, record { few = w.few; some_payload = w.least; short = w.most; inside = omega (arith, w.ends) })
 
 pub returns-in-Install : goal.returns-in-Install
@@ -33,7 +33,7 @@ returns-in-Cancel c = served c.requires.2 _ c.in-Cancel.is (omega arith) (cancel
 
 pub handle_list-requires : goal.handle_list-requires
 handle_list-requires c =
-    let w = list_within c.args.frame.now c.args.asked c.requires.2.answers _ _ _ (c.requires.2.yes ∙ ap Yes c.in-List.is) in
+    let w = list_within c.args.frame.now c.args.asked.now c.requires.2.answers _ _ _ (c.requires.2.yes ∙ ap Yes c.in-List.is) in
     (record { whole = c.requires.0.whole; well = c.requires.0.well; room = c.requires.0.room }, w.few, omega (arith, w.ends))
 
 pub returns-in-List : goal.returns-in-List

@@ -19,24 +19,9 @@ returns-then-not-holds c =
     c.holds.ensures ∙ ap (λ (z : ℤ). totals_hold (totals_with z c.args.returns.now)) total_is in
     given_108 c.args.table.now (call_of c.args.tally c.args.start c.args.frame.now c.args.reply.now) c.args.total.now c.args.returns.now c.args.change.now c.holds.result holds_is (ap not c.if-not-holds.true)
 
-pub with_return-sum-requires : goal.with_return-sum-requires
-with_return-sum-requires c =
+pub counted_call-requires : goal.counted_call-requires
+counted_call-requires c =
     let total_is : to_z w32 (of_z w32 c.args.total.now) ≡ c.args.total.now = to_z-of_z {w = w32} (record { sfits = search rules }) in
     let holds_is : c.holds.result ≡ totals_hold (totals_with c.args.total.now c.args.returns.now) =
-    c.holds.ensures ∙ ap (λ (z : ℤ). totals_hold (totals_with z c.args.returns.now)) total_is in
-    rw total_is (sym holds_is ∙ c.if-not-holds.false)
-
-pub returns : goal.returns
-returns c =
-    let total_is : to_z w32 (of_z w32 c.args.total.now) ≡ c.args.total.now = to_z-of_z {w = w32} (record { sfits = search rules }) in
-    let holds_is : c.holds.result ≡ totals_hold (totals_with c.args.total.now c.args.returns.now) =
-    c.holds.ensures ∙ ap (λ (z : ℤ). totals_hold (totals_with z c.args.returns.now)) total_is in
-    let sum = c.with_return-sum in
-    let called = c.call_and_tell-called in
-    let total_fits : SFits w32 c.with_return-sum.result.total = record { sfits = search rules } in
-    let change_fits : SFits w32 c.with_return-sum.result.change = record { sfits = search rules } in
-    rw (to_z-of_z total_fits, to_z-of_z change_fits)
-    (with_totals c.args.table.now (call_of c.args.tally c.args.start c.args.frame.now c.args.reply.now) c.args.total.now c.args.returns.now c.args.change.now (sym holds_is ∙ c.if-not-holds.false) _
-    called.ensures.calls called.result.change called.ensures.tells sum.result
-    (sum.ensures.sums ∙ ap (λ (z : ℤ). with_return (return_said called.result.change) (totals_with z c.args.returns.now)) total_is)
-    sum.ensures.says)
+      c.holds.ensures ∙ ap (λ (z : ℤ). totals_hold (totals_with z c.args.returns.now)) total_is in
+    sym holds_is ∙ c.if-not-holds.false

@@ -15,8 +15,8 @@ loop-i-init c = (search rules, passed_none _ _ _ _)
 pub slice_bounds-is_listed-end : goal.slice_bounds-is_listed-end
 slice_bounds-is_listed-end c =
     let a = c.args in
-    let l : length a.query ≡ most_hashes = search rules in
-    sym (length-take-le a.hashes a.query (omega arith))
+    let l : length a.query.now ≡ most_hashes = search rules in
+    sym (length-take-le a.hashes a.query.now (omega arith))
 
 pub is_listed-requires : goal.is_listed-requires
 is_listed-requires c = (search rules, few_in_slot c.args.table.now c.args.reply.now c.requires.0 c.loop-i.i c.loop-i-test.true _ c.slot_at-slot.ensures.0)

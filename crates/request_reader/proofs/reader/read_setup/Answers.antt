@@ -6,4 +6,4 @@ pub returns-then-n-ne12 : goal.returns-then-n-ne12
 returns-then-n-ne12 c = search tests
 
 pub returns : goal.returns
-returns c = rw (← c.word_at-length.ensures) c.read_one.ensures
+returns c = rw (← c.word_at-length.ensures) (search (tests, c.with_handle.ensures))
