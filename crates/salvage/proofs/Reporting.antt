@@ -6,6 +6,10 @@ use mathlib.Core.Option.{some, some-injective}
 use native.Mathlib.Omega.{arith}
 use native.Mathlib.Nat.{le_of_suc-le-suc, not-suc-le-zero}
 use native.Mathlib.Numerals.{add-one}
+use lib.Dec.{eqb}
+use mathlib.Core.Bool.{true≢false}
+use Rattle.std.specs.Prelude.{if◌then◌else◌}
+use Rattle.profile.proofs.Logic.{if_cases, eqb_eq, eqb_true}
 use lib.ListN.{length, get_or, get_elem?, take, drop, set}
 use lib.Seq.{take_all}
 use Rattle.profile.specs.Bytes.{Bytes, over}
@@ -116,6 +120,13 @@ module _ (t : Bytes) where
     pub cleared_more : (found : ℕ) → found ≡ finding_byte (finding_at i t) → (found ≡ 0 → ⊥) → cleared_to (i + 1) t ≡ cleared_to i t + 1
     unfolding cleared_to
     cleared_more found e n = rw (add-one i) (omega (arith, take_cleared i (findings_of t) (finding_at i t) found_at, one_other (finding_at i t) (λ z. n (e ∙ z))))
+
+    pub cleared_next : (found n m : ℕ) → found ≡ finding_byte (finding_at i t) → n ≡ cleared_to i t → m ≡ (if eqb found 0 then n else n + 1) → m ≡ cleared_to (i + 1) t
+    cleared_next found n m e at p =
+        p
+        ∙ if_cases (λ (x : ℕ). x ≡ cleared_to (i + 1) t) (eqb found 0)
+        (λ q. at ∙ sym (cleared_same found e (eqb_eq found 0 q)))
+        (λ q. rw at (sym (cleared_more found e (λ z. true≢false (sym (eqb_true found 0 z) ∙ q)))))
 
   pub reported_all : (i : ℕ) (r : Bytes) → slot_count t ≤ i → slot_count t ≤ length r → reported_to i t r ≡ over (report_of t) r
   unfolding reported_to over report_of

@@ -1,5 +1,5 @@
 // The slots of a table, from the lowest up, each kept or cleared where it stands.
-ghost use Rattle.std.specs.Prelude.{◌≡◌, [], true, ◌<◌, ◌≤◌, length, get_or, set, take};
+ghost use Rattle.std.specs.Prelude.{◌≡◌, [], true, ◌+◌, ◌<◌, ◌≤◌, length, get_or, set, take, nat_eq, if◌then◌else◌};
 ghost use Rattle.profile.specs.Bytes.{over};
 ghost use Rattle.profile.specs.Table.{slot_count, whole_slots};
 ghost use Rattle.profile.specs.Salvage.{cleared as cleared_of, findings_of, left_of, report_of};
@@ -20,6 +20,17 @@ fn settle(t: &mut [u8], i: usize) -> u8
     found
 }
 
+// How many slots are cleared, with one more of which this is found: every one but those that are kept.
+fn counted(cleared: u16, found: u8) -> u16
+    requires { cleared < 65535 }
+    ensures { result ≡ (if nat_eq found 0 then cleared else cleared + 1) }
+{
+    if found == KEPT {
+        return cleared;
+    }
+    cleared + 1
+}
+
 // All slots. The report gets a byte for each, and those cleared are counted.
 pub(crate) fn leave_slots(t: &mut [u8], report: &mut [u8]) -> u16
     requires { (whole_slots t.old ≡ true) × (slot_count t.old ≤ length report.old) }
@@ -31,9 +42,7 @@ pub(crate) fn leave_slots(t: &mut [u8], report: &mut [u8]) -> u16
     while i < n {
         let found = settle(t, i);
         report[i] = found;
-        if found != KEPT {
-            cleared += 1;
-        }
+        cleared = counted(cleared, found);
         i += 1;
     }
     cleared

@@ -75,6 +75,7 @@ fn well_rest(s: &[u8]) -> bool
 }
 
 // The bit of a count. Empty and reserved slots keep none; in any other slot the bit and the number say a count (PROFILE 2.6).
+#[tactic(auto, using(crate::proofs::WellSlots::no_count_lem))]
 fn well_count(s: &[u8]) -> bool
     requires { length s.now ≡ slot_size }
     ensures { result ≡ well_count s.now }

@@ -12,6 +12,7 @@ use profile::slot::LENGTH_AT;
 const ONE: [u64; 4] = [1, 65536, 4294967296, 281474976710656];
 
 // What a slot of a place and length adds to the sum: nothing, unless it holds a right. A reservation has no payload yet.
+#[tactic(auto, using(crate::proofs::Counting::no_right, crate::proofs::Counting::of_right))]
 fn in_sum(place: usize, length: u16) -> u16
     ensures { result ≡ in_sum place length }
 {

@@ -16,6 +16,7 @@ pub struct Added {
 }
 
 // Whether there is room for one more return, and the total can be the sum of so many changes: at most 65,535 for each, either way.
+#[tactic(auto, using(crate::proofs::Bounds::too_many))]
 pub fn holds(total: i32, returns: u16) -> bool
     ensures { result ≡ totals_hold (totals_with total returns) }
 {

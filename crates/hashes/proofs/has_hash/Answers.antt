@@ -22,10 +22,10 @@ returns-then-same_from c =
 pub loop-i-preserved : goal.loop-i-preserved
 loop-i-preserved c =
     let a = c.args in (
-  omega arith,
-  c.loop-i.invariant.1 ∙ any_pass (same a.asked.now) (hashes_step a.bytes.now a.count c.loop-i.i (omega arith))
-      (hash_compared a.asked.now _ _ (search rules) (search rules) c.hash_of-hash.ensures c.same_from.ensures ∙ c.if-same_from.false),
-)
+      omega arith,
+      c.loop-i.invariant.1 ∙ any_pass (same a.asked.now) (hashes_step a.bytes.now a.count c.loop-i.i (omega arith))
+          (hash_compared a.asked.now _ _ (search rules) (search rules) c.hash_of-hash.ensures c.same_from.ensures ∙ c.if-same_from.false),
+    )
 
 pub returns : goal.returns
 returns c =

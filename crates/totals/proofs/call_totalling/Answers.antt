@@ -23,5 +23,5 @@ pub counted_call-requires : goal.counted_call-requires
 counted_call-requires c =
     let total_is : to_z w32 (of_z w32 c.args.total.now) ≡ c.args.total.now = to_z-of_z {w = w32} (record { sfits = search rules }) in
     let holds_is : c.holds.result ≡ totals_hold (totals_with c.args.total.now c.args.returns.now) =
-      c.holds.ensures ∙ ap (λ (z : ℤ). totals_hold (totals_with z c.args.returns.now)) total_is in
+    c.holds.ensures ∙ ap (λ (z : ℤ). totals_hold (totals_with z c.args.returns.now)) total_is in
     sym holds_is ∙ c.if-not-holds.false

@@ -5,8 +5,7 @@ use native.Mathlib.Omega.{arith}
 use lib.ListN.{length, length-set}
 use Rattle.profile.proofs.WholeSlots.{at_most_15}
 use Rattle.salvage.proofs.Leaving.{settled_length, settled_whole, settled_none, settled_all, found_byte, settled_more}
-use Rattle.salvage.proofs.Reporting.{reported_none, cleared_none, few_to, reported_more, cleared_same, cleared_more, reported_all, cleared_all}
-use Rattle.salvage.proofs.slots_left.leave_slots.Goals.{then-found-ne-KEPT, else-found-ne-KEPT}
+use Rattle.salvage.proofs.Reporting.{reported_none, cleared_none, few_to, reported_more, cleared_next, reported_all, cleared_all}
 use Rattle.salvage.proofs.slots_left.leave_slots.Goals as goal
 
 pub loop-i-init : goal.loop-i-init
@@ -20,8 +19,8 @@ settle-found-requires c = (rw c.loop-i.invariant.3 (settled_whole c.args.t.now c
 pub bounds-report-i : goal.bounds-report-i
 bounds-report-i c = omega (arith, c.loop-i-test.true, c.requires.1, c.loop-i.invariant.2)
 
-pub overflow_add-cleared : goal.overflow_add-cleared
-overflow_add-cleared c = omega (arith, c.loop-i.invariant.0, c.loop-i.invariant.5, few_to c.loop-i.i c.args.t.now, at_most_15 c.args.t.now c.requires.0)
+pub counted-cleared-requires : goal.counted-cleared-requires
+counted-cleared-requires c = omega (arith, c.loop-i.invariant.0, c.loop-i.invariant.5, few_to c.loop-i.i c.args.t.now, at_most_15 c.args.t.now c.requires.0)
 
 pub loop-i-preserved : goal.loop-i-preserved
 loop-i-preserved c =
@@ -36,10 +35,7 @@ loop-i-preserved c =
       length-set c.loop-i.report i found ∙ c.loop-i.invariant.2,
       more,
       rw c.loop-i.invariant.4 (reported_more t i c.loop-i-test.true c.args.report.now found (omega (arith, c.loop-i-test.true, c.requires.1)) e),
-      elim c.if-found-ne-KEPT.branch [
-        | then-found-ne-KEPT w ↦ w.cleared-is ∙ omega (arith, c.loop-i.invariant.5, cleared_more t i c.loop-i-test.true found e w.if-found-ne-KEPT.true)
-        | else-found-ne-KEPT w ↦ w.cleared-is ∙ omega (arith, c.loop-i.invariant.5, cleared_same t i c.loop-i-test.true found e w.if-found-ne-KEPT.false)
-      ],
+      cleared_next t i c.loop-i-test.true found c.loop-i.cleared c.counted-cleared.result e c.loop-i.invariant.5 c.counted-cleared.ensures,
     )
 
 pub returns : goal.returns

@@ -5,10 +5,7 @@ use Rattle.profile.specs.Slot.{count_holds}
 use Rattle.slots.proofs.WellSlots.{no_count_lem, some_count}
 use Rattle.slots.proofs.well.well_count.Goals as goal
 
-pub returns-then-slot_place-lt-ENABLED : goal.returns-then-slot_place-lt-ENABLED
-returns-then-slot_place-lt-ENABLED c = no_count_lem c.args.s.now _ c.slot_kept-kept.ensures (omega (arith, c.slot_place.ensures, c.if-slot_place-lt-ENABLED.true))
-
 pub returns : goal.returns
 returns c = c.count_holds.ensures
     ∙ ap₂ count_holds c.slot_kept-kept.ensures c.word_at.ensures
-    ∙ some_count c.args.s.now (omega (arith, c.slot_place.ensures, c.if-slot_place-lt-ENABLED.false))
+    ∙ some_count c.args.s.now (omega (arith, c.slot_place.ensures))

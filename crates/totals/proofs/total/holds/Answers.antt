@@ -10,24 +10,21 @@ use Rattle.totals.proofs.Fitting.{unsigned_is}
 use Rattle.totals.proofs.Bounds.{too_many, tested, most_fits, least_fits}
 use Rattle.totals.proofs.total.holds.Goals as goal
 
-pub returns-then-returns-ge-MOST_RETURNS : goal.returns-then-returns-ge-MOST_RETURNS
-returns-then-returns-ge-MOST_RETURNS c = too_many c.args.total c.args.returns (omega (arith, c.if-returns-ge-MOST_RETURNS.true))
-
 pub overflow_mul-most : goal.overflow_mul-most
 overflow_mul-most c =
-    let room : c.args.returns < 30000 = omega (arith, c.if-returns-ge-MOST_RETURNS.false) in
+    let room : c.args.returns < 30000 = omega arith in
     rw (unsigned_is c.args.returns (omega arith)) (most_fits c.args.returns room)
 
 pub overflow_sub-result : goal.overflow_sub-result
 overflow_sub-result c =
-    let room : c.args.returns < 30000 = omega (arith, c.if-returns-ge-MOST_RETURNS.false) in
+    let room : c.args.returns < 30000 = omega arith in
     let most : to_z w32 (of_z w32 (to_z w32 c.args.returns *ℤ pos 65535)) ≡ pos (c.args.returns * 65535) =
     rw (unsigned_is c.args.returns (omega arith)) (to_z-of_z (most_fits c.args.returns room)) in
     rw most (least_fits c.args.returns room)
 
 pub returns : goal.returns
 returns c =
-    let room : c.args.returns < 30000 = omega (arith, c.if-returns-ge-MOST_RETURNS.false) in
+    let room : c.args.returns < 30000 = omega arith in
     let most : to_z w32 (of_z w32 (to_z w32 c.args.returns *ℤ pos 65535)) ≡ pos (c.args.returns * 65535) =
     rw (unsigned_is c.args.returns (omega arith)) (to_z-of_z (most_fits c.args.returns room)) in
     rw (most, to_z-of_z (least_fits c.args.returns room), to_z-of_z c.ranges.total) (tested c.args.total c.args.returns room)
