@@ -92,7 +92,7 @@ def table():
             to[n] = SPECIAL.get(n) or snake(n)
     taken = collections.Counter(to.values())
     for n, new in to.items():
-        if "-" in n and (taken[new] > 1 or new in names and n not in SPECIAL and clash(n, new)):
+        if "-" in n and n not in SPECIAL and (taken[new] > 1 or new in names and clash(n, new)):
             to[n] = new + "_lem"
     again = collections.Counter(to.values())
     said = [n for n, k in again.items() if k > 1 and n not in SPECIAL.values()]
