@@ -46,8 +46,8 @@ pub extern "C" fn cavernlull_call(
     done.number
 }
 
-// Whether there is room for one more return in the totals (PROFILE 4.5). It looks at them where they lie, so that the totalling call keeps
-// no copy of them on the stack.
+// Whether there is room for one more return in the totals (PROFILE 4.5). It is tested before the tally is copied, and apart from the call, so that
+// the totalling call keeps fewer values on the stack.
 #[inline(never)]
 fn has_room(total: &i32, returns: &u16) -> bool
     ensures { result ≡ totals_hold (totals_with total.now returns.now) }

@@ -51,7 +51,7 @@ fn zero_bits(kind: u8, second: u8) -> bool
     }
 }
 
-// Kinds 6, 7 and 9: a handle. Kind 1 too: the word after the handle is in `body` already. `size` is the kind's body length.
+// Kinds 6, 7 and 9: a handle. `size` is the kind's body length.
 fn read_one(f: &[u8], n: usize, size: usize, verdict: u8, body: Body) -> Asked
     requires { (length f.now ≡ 4 + n) × (handle_size ≤ size) }
     ensures { result ≡ tested (eqb n size) verdict (one_handle f.now NoneKept body) }

@@ -24,7 +24,8 @@ fn why_of(ask: Ask) -> Why
     why
 }
 
-// Kinds 3 and 4, by their number. The handles are locals of this function and not of `serve`: there they would take stack in every call.
+// Kinds 3 and 4, by their number. The handles are locals of this function and not of `serve`, so that they share their place on the stack with
+// the locals of the other kinds.
 #[inline(always)]
 fn lend(table: &mut [u8], reply: &mut [u8], asked: &Asked, kind: u8) -> Change
     requires { Ready table.old reply.old × (3 ≤ kind) × (kind ≤ 4) }
@@ -93,7 +94,7 @@ pub struct Answered {
     pub change: Change,
 }
 
-// What comes of a frame that was read. What was read is lent, and a local of none of these functions, so that it takes its place once.
+// What comes of a frame that was read. What was read is a local of `answer`, lent to all below, so that it takes its place on the stack once.
 fn answer_asked(
     table: &mut [u8],
     start: usize,
