@@ -8,7 +8,7 @@ use lib.Dec.{eqb}
 use lib.IntN.{ℤ, pos, neg_ℤ, ◌+ℤ◌, ◌-ℤ◌, +ℤ_idl, +ℤ_assoc, +ℤ_invr, neg_ℤ-+ℤ, pos-+ℤ-pos}
 use Rattle.std.specs.Prelude.{if◌then◌else◌}
 use Rattle.profile.specs.Bytes.{Bytes}
-use Rattle.profile.specs.Slot.{Count, NoneKept, Kept, raises, reserved, enabled, disabled, Slot}
+use Rattle.profile.specs.Slot.{Count, None, Some, raises, reserved, enabled, disabled, Slot}
 use Rattle.profile.specs.Table.{slots_of}
 use Rattle.profile.specs.Frame.{kind_number}
 use Rattle.profile.specs.Request.{Request, setup, install, retrieve, rek, enable, remove, cancel, list, info, Read, asks, refused, no_frame, read_request}
@@ -53,9 +53,9 @@ sum_below x y p q =
 
 -- ---- the change of a return
 return_below : (stored sent : Count) → raises stored sent ≡ false → NotAbove (change (returned stored sent))
-return_below NoneKept sent e = none_above
-return_below (Kept a) NoneKept e = none_above
-return_below (Kept a) (Kept b) e = difference_below a b (ltb_over a b e)
+return_below None sent e = none_above
+return_below (Some a) None e = none_above
+return_below (Some a) (Some b) e = difference_below a b (ltb_over a b e)
 
 -- by the answer to an enablement, on the record found
 abbrev Below : Answer → Return → Type 0

@@ -8,7 +8,7 @@ use native.Mathlib.Omega.{arith}
 use lib.Dec.{eqb, leb, ltb}
 use lib.ListN.{length, get_elem?, set}
 use Rattle.profile.specs.Bytes.{Bytes}
-use Rattle.profile.specs.Slot.{Count, Kept, raises, Right, recount, Entry, reserved, enabled, disabled, Slot, taken, in_use, distinct}
+use Rattle.profile.specs.Slot.{Count, Some, raises, Right, recount, Entry, reserved, enabled, disabled, Slot, taken, in_use, distinct}
 use Rattle.profile.specs.Frame.{count_raised}
 use Rattle.profile.specs.Request.{Request, setup, install, retrieve, rek, enable, remove, cancel, list, info}
 use Rattle.profile.specs.Agent.{Given, nothing, the_right, the_key, Answer, deny, done, Found, absent, one, find, when_found, install_at, lend_at, enable_at, remove_at, cancel_at, info_at, act, status}
@@ -27,11 +27,11 @@ module _ (free : ℕ) (t : List Slot) (d : distinct t ≡ true) (i : ℕ) (h : B
   unfolding act
   as_it_went = rw (find_at t d i h (disabled r) e, (raise_means r.count r.count).1 (no_higher_same r.count))
 
-  with_0 : (a : ℕ) → r.count ≡ Kept a → act free t (enable h (Kept 0)) ≡ done nothing (set t i (taken h (enabled (recount (Kept 0) r))))
+  with_0 : (a : ℕ) → r.count ≡ Some a → act free t (enable h (Some 0)) ≡ done nothing (set t i (taken h (enabled (recount (Some 0) r))))
   unfolding act
   with_0 a p =
-      let n : NoHigher r.count (Kept 0) = rw p (omega arith) in
-      rw (find_at t d i h (disabled r) e, (raise_means r.count (Kept 0)).1 n)
+      let n : NoHigher r.count (Some 0) = rw p (omega arith) in
+      rw (find_at t d i h (disabled r) e, (raise_means r.count (Some 0)).1 n)
 
   pub returned_anyway : ReturnedAnyway free t i h r
   returned_anyway =

@@ -4,7 +4,7 @@ use mathlib.Core.Path.{◌≡◌, refl, ap}
 use native.Mathlib.Omega.{arith}
 use lib.IntN.{pos, neg_ℤ, nat_abs, pos-ne-negsuc}
 use Rattle.profile.specs.Bytes.{Bytes}
-use Rattle.profile.specs.Slot.{Count, NoneKept, Kept, reserved, enabled, disabled}
+use Rattle.profile.specs.Slot.{Count, None, Some, reserved, enabled, disabled}
 use Rattle.profile.specs.Request.{Request, setup, install, retrieve, rek, enable, remove, cancel, list, info, number_of}
 use Rattle.profile.specs.Agent.{Found, absent, one, find}
 use Rattle.profile.specs.CaseBytes.{H1, H2}
@@ -25,19 +25,19 @@ under (list limit q) = H1
 under (info h) = h
 
 sent_in : Request → Count
-sent_in (setup h n) = NoneKept
+sent_in (setup h n) = None
 sent_in (install h r) = r.count
-sent_in (retrieve h k) = NoneKept
-sent_in (rek h k) = NoneKept
+sent_in (retrieve h k) = None
+sent_in (rek h k) = None
 sent_in (enable h c) = c
-sent_in (remove h) = NoneKept
-sent_in (cancel h) = NoneKept
-sent_in (list limit q) = NoneKept
-sent_in (info h) = NoneKept
+sent_in (remove h) = None
+sent_in (cancel h) = None
+sent_in (list limit q) = None
+sent_in (info h) = None
 
 count_in : Found → Count
-count_in absent = NoneKept
-count_in (one i (reserved n)) = NoneKept
+count_in absent = None
+count_in (one i (reserved n)) = None
 count_in (one i (enabled r)) = r.count
 count_in (one i (disabled r)) = r.count
 
@@ -61,12 +61,12 @@ rises_hold =
       one_more = λ n. not_over 8 7 (λ t. t) n;
       none_for_kept = λ n. n;
       kept_for_none = λ n. n;
-      raised = record { handle = H2; sent = Kept 8; asks = refl; at = 2; right = seven; is_lent = refl; higher = λ n. not_over 8 7 (λ t. t) n };
-      begun_again = record { handle = H2; sent = NoneKept; asks = refl; at = 2; right = seven; is_lent = refl; higher = λ n. n };
+      raised = record { handle = H2; sent = Some 8; asks = refl; at = 2; right = seven; is_lent = refl; higher = λ n. not_over 8 7 (λ t. t) n };
+      begun_again = record { handle = H2; sent = None; asks = refl; at = 2; right = seven; is_lent = refl; higher = λ n. n };
       not_raised = λ r.
           let found : find H2 slots ≡ one r.at (disabled r.right) = rw (← ap under r.asks) at r.is_lent in
-          let stored : Kept 7 ≡ r.right.count = ap count_in found in
-          let sent : Kept 7 ≡ r.sent = ap sent_in r.asks in
+          let stored : Some 7 ≡ r.right.count = ap count_in found in
+          let sent : Some 7 ≡ r.sent = ap sent_in r.asks in
           r.higher (rw (← stored, ← sent) (omega arith));
       not_in_use_lem = λ r.
           let found : find H1 slots ≡ one r.at (disabled r.right) = rw (← ap under r.asks) at r.is_lent in

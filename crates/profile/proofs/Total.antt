@@ -9,7 +9,7 @@ use lib.Dec.{eqb, leb, ltb}
 use lib.IntN.{ℤ, nat_abs}
 use lib.ListN.{length}
 use Rattle.profile.specs.Bytes.{Bytes, Bytes256}
-use Rattle.profile.specs.Slot.{Count, NoneKept, Kept, reserved, enabled, disabled, Slot, taken}
+use Rattle.profile.specs.Slot.{Count, None, Some, reserved, enabled, disabled, Slot, taken}
 use Rattle.profile.specs.Table.{slot_count, slots_of, whole_slots, well_table}
 use Rattle.profile.specs.Tally.{tally_in, same_tally}
 use Rattle.profile.specs.Frame.{kind_number, status_in}
@@ -34,15 +34,15 @@ ReturnSmall (returned stored sent) = Small stored × Small sent
 -- at most 65,535 if it is counted, and else 0
 change_size : (r : Return) → ReturnSmall r → nat_abs (change r) ≤ counted r * 65535
 change_size no_return s = omega arith
-change_size (returned NoneKept sent) s = omega arith
-change_size (returned (Kept a) NoneKept) s = omega arith
-change_size (returned (Kept a) (Kept b)) s = omega (arith, difference_size b a 65535 s.1 s.0)
+change_size (returned None sent) s = omega arith
+change_size (returned (Some a) None) s = omega arith
+change_size (returned (Some a) (Some b)) s = omega (arith, difference_size b a 65535 s.1 s.0)
 
 pub counts_once : (r : Return) → counted r ≤ 1
 counts_once no_return = omega arith
-counts_once (returned NoneKept sent) = omega arith
-counts_once (returned (Kept a) NoneKept) = omega arith
-counts_once (returned (Kept a) (Kept b)) = omega arith
+counts_once (returned None sent) = omega arith
+counts_once (returned (Some a) None) = omega arith
+counts_once (returned (Some a) (Some b)) = omega arith
 
 module _ (t : List Slot) (fit : CountsFit t) where
   from_small : (h : Bytes) (c : Count) → Small c → (f : Found) → FoundIs h t f → ReturnSmall (return_from f c)

@@ -6,7 +6,7 @@ use mathlib.Core.List.{List, [], ◌∷◌}
 use mathlib.Core.Option.{Option, none, some}
 use lib.ListN.{length, get_elem?}
 use Rattle.profile.specs.Bytes.{Bytes, byte, In}
-use Rattle.profile.specs.Slot.{Kept, Right, Slot}
+use Rattle.profile.specs.Slot.{Some, Right, Slot}
 use Rattle.profile.specs.Request.{list}
 use Rattle.profile.specs.Agent.{nothing, the_right, the_key, handles, counted, Answer, deny, done, act}
 use Rattle.profile.specs.CaseBytes.{H2, H3, H4, A}
@@ -85,7 +85,7 @@ unlisted_hold =
       not_reserved = λ w. not_there (at_slot w);
       not_empty = λ w. not_there (at_slot w);
       not_outside = λ w. not_there (at_slot w);
-      other_count = record { count = Kept 7; stands = record { slot = _; there = refl; holds = refl } };
+      other_count = record { count = Some 7; stands = record { slot = _; there = refl; holds = refl } };
       other_key = λ w. not_equal 1 0xE0 (λ t. t) (ap (λ (r : Right). byte 0 r.key) (in_slot w.stands));
       other_payload = λ w. not_equal 5 1 (λ t. t) (ap (λ (r : Right). length r.payload) (in_slot w.stands));
       other_hashes = λ w. not_equal 0 1 (λ t. t) (ap (λ (r : Right). length r.hashes) (in_slot w.stands));

@@ -1,7 +1,7 @@
 -- PROFILE 5, kind by kind, in worked cases on slots told without their bytes: each test, and each pair of tests of which both apply.
 use Rattle.std.specs.Prelude.{ℕ, ◌≡◌, List, [], ◌∷◌, ◌++◌, map, Bool, true, false, take, replicate}
 use Rattle.profile.specs.Bytes.{Bytes, joined, pieces}
-use Rattle.profile.specs.Slot.{NoneKept, Kept, Right, right_with, recount, reserved, enabled, disabled, Slot, empty, taken}
+use Rattle.profile.specs.Slot.{None, Some, Right, right_with, recount, reserved, enabled, disabled, Slot, empty, taken}
 use Rattle.profile.specs.Frame.{Refusal, parameter, not_found, duplicate, unexpected, no_space, count_raised}
 use Rattle.profile.specs.Request.{Request, setup, install, retrieve, rek, enable, remove, cancel, list, info}
 use Rattle.profile.specs.Agent.{Given, nothing, the_right, the_key, handles, counted, Answer, deny, done, act, lowest_empty, first_empty_from, first_of}
@@ -22,28 +22,28 @@ gives t q g u = record { slots = t; request = q; answer = done g u }
 
 -- ---- rights: with no hash, with A, with A and B, with B alone, with eight hashes and no count; a key of zeros; a count that is used up; six bytes of payload
 abbrev pub plain : Right
-plain = right_with K (Kept 7) [] five
+plain = right_with K (Some 7) [] five
 
 abbrev pub only_a : Right
-only_a = right_with K (Kept 7) (A ∷ []) five
+only_a = right_with K (Some 7) (A ∷ []) five
 
 abbrev pub both : Right
-both = right_with L (Kept 258) (A ∷ B ∷ []) (hex "BC")
+both = right_with L (Some 258) (A ∷ B ∷ []) (hex "BC")
 
 abbrev pub only_b : Right
-only_b = right_with L (Kept 258) (B ∷ []) (hex "BC")
+only_b = right_with L (Some 258) (B ∷ []) (hex "BC")
 
 abbrev pub full8 : Right
-full8 = right_with K NoneKept (pieces 20 8 eight) five
+full8 = right_with K None (pieces 20 8 eight) five
 
 abbrev pub zero_key : Right
-zero_key = right_with (replicate 16 0x00) (Kept 7) [] five
+zero_key = right_with (replicate 16 0x00) (Some 7) [] five
 
 abbrev pub spent : Right
-spent = right_with K (Kept 0) [] five
+spent = right_with K (Some 0) [] five
 
 abbrev pub six : Right
-six = right_with K (Kept 7) (A ∷ []) (hex "A1 A2 A3 A4 A5 A6")
+six = right_with K (Some 7) (A ∷ []) (hex "A1 A2 A3 A4 A5 A6")
 
 -- ---- slots: H1 reserved, H2 enabled, H3 disabled; an empty one after them
 abbrev pub full : List Slot
@@ -120,31 +120,31 @@ lendings =
 unfoldable pub others : List Case
 others =
     -- 5.5
-    denies full (enable H4 (Kept 3)) not_found
-    ∷ denies full (enable H1 (Kept 3)) unexpected
+    denies full (enable H4 (Some 3)) not_found
+    ∷ denies full (enable H1 (Some 3)) unexpected
     -- an enabled record stays as it is, whatever the count sent
-    ∷ gives full (enable H2 (Kept 3)) nothing full
-    ∷ gives full (enable H2 (Kept 65535)) nothing full
-    ∷ gives full (enable H2 NoneKept) nothing full
+    ∷ gives full (enable H2 (Some 3)) nothing full
+    ∷ gives full (enable H2 (Some 65535)) nothing full
+    ∷ gives full (enable H2 None) nothing full
     -- a kept count: fewer, none left, and as many; used up, a count is still kept
-    ∷ gives full (enable H3 (Kept 3)) nothing (taken H1 (reserved 5) ∷ taken H2 (enabled both) ∷ taken H3 (enabled (recount (Kept 3) plain)) ∷ [])
-    ∷ gives full (enable H3 (Kept 0)) nothing (taken H1 (reserved 5) ∷ taken H2 (enabled both) ∷ taken H3 (enabled (right_with K (Kept 0) [] five)) ∷ [])
-    ∷ gives full (enable H3 (Kept 7)) nothing (taken H1 (reserved 5) ∷ taken H2 (enabled both) ∷ taken H3 (enabled plain) ∷ [])
-    ∷ gives (taken H2 (disabled both) ∷ []) (enable H2 (Kept 255)) nothing (taken H2 (enabled (right_with L (Kept 255) (A ∷ B ∷ []) (hex "BC"))) ∷ [])
+    ∷ gives full (enable H3 (Some 3)) nothing (taken H1 (reserved 5) ∷ taken H2 (enabled both) ∷ taken H3 (enabled (recount (Some 3) plain)) ∷ [])
+    ∷ gives full (enable H3 (Some 0)) nothing (taken H1 (reserved 5) ∷ taken H2 (enabled both) ∷ taken H3 (enabled (right_with K (Some 0) [] five)) ∷ [])
+    ∷ gives full (enable H3 (Some 7)) nothing (taken H1 (reserved 5) ∷ taken H2 (enabled both) ∷ taken H3 (enabled plain) ∷ [])
+    ∷ gives (taken H2 (disabled both) ∷ []) (enable H2 (Some 255)) nothing (taken H2 (enabled (right_with L (Some 255) (A ∷ B ∷ []) (hex "BC"))) ∷ [])
     -- one more, more in the high byte, the most, and none
-    ∷ denies full (enable H3 (Kept 8)) count_raised
-    ∷ denies full (enable H3 (Kept 263)) count_raised
-    ∷ denies full (enable H3 (Kept 65535)) count_raised
-    ∷ denies full (enable H3 NoneKept) count_raised
-    ∷ denies (taken H2 (disabled both) ∷ []) (enable H2 (Kept 259)) count_raised
+    ∷ denies full (enable H3 (Some 8)) count_raised
+    ∷ denies full (enable H3 (Some 263)) count_raised
+    ∷ denies full (enable H3 (Some 65535)) count_raised
+    ∷ denies full (enable H3 None) count_raised
+    ∷ denies (taken H2 (disabled both) ∷ []) (enable H2 (Some 259)) count_raised
     -- a count that is used up
-    ∷ gives (taken H2 (disabled spent) ∷ []) (enable H2 (Kept 0)) nothing (taken H2 (enabled spent) ∷ [])
-    ∷ denies (taken H2 (disabled spent) ∷ []) (enable H2 (Kept 1)) count_raised
-    ∷ denies (taken H2 (disabled spent) ∷ []) (enable H2 NoneKept) count_raised
+    ∷ gives (taken H2 (disabled spent) ∷ []) (enable H2 (Some 0)) nothing (taken H2 (enabled spent) ∷ [])
+    ∷ denies (taken H2 (disabled spent) ∷ []) (enable H2 (Some 1)) count_raised
+    ∷ denies (taken H2 (disabled spent) ∷ []) (enable H2 None) count_raised
     -- no count
-    ∷ gives (taken H1 (disabled full8) ∷ []) (enable H1 NoneKept) nothing (taken H1 (enabled full8) ∷ [])
-    ∷ denies (taken H1 (disabled full8) ∷ []) (enable H1 (Kept 0)) count_raised
-    ∷ denies (taken H1 (disabled full8) ∷ []) (enable H1 (Kept 3)) count_raised
+    ∷ gives (taken H1 (disabled full8) ∷ []) (enable H1 None) nothing (taken H1 (enabled full8) ∷ [])
+    ∷ denies (taken H1 (disabled full8) ∷ []) (enable H1 (Some 0)) count_raised
+    ∷ denies (taken H1 (disabled full8) ∷ []) (enable H1 (Some 3)) count_raised
     -- 5.6
     ∷ denies full (remove H4) not_found
     ∷ denies full (remove H1) unexpected
@@ -159,8 +159,8 @@ others =
     ∷ denies full (info H4) not_found
     ∷ denies full (info H1) unexpected
     ∷ denies full (info H3) unexpected
-    ∷ gives full (info H2) (counted (Kept 258) (hex "BC")) full
-    ∷ gives (taken H1 (enabled plain) ∷ []) (info H1) (counted (Kept 7) five) (taken H1 (enabled plain) ∷ [])
+    ∷ gives full (info H2) (counted (Some 258) (hex "BC")) full
+    ∷ gives (taken H1 (enabled plain) ∷ []) (info H1) (counted (Some 7) five) (taken H1 (enabled plain) ∷ [])
     ∷ []
 
 -- ---- PROFILE 5.8: empty, H1 with no hash, reserved, H3 with A and B, disabled with A and B, H2 with B

@@ -2,7 +2,7 @@
 -- goes out, returns, and tables that differ in keys alone.
 use Rattle.std.specs.Prelude.{◌≡◌, List, [], ◌∷◌, ◌++◌, map, true, false, take, drop, replicate}
 use Rattle.profile.specs.Bytes.{Bytes}
-use Rattle.profile.specs.Slot.{NoneKept, Kept, right_with, reserved, enabled, disabled, Slot, empty, taken}
+use Rattle.profile.specs.Slot.{None, Some, right_with, reserved, enabled, disabled, Slot, empty, taken}
 use Rattle.profile.specs.Request.{install, rek, retrieve, enable, remove}
 use Rattle.profile.specs.Tally.{Tally, tally_with}
 use Rattle.profile.specs.Agent.{Call}
@@ -35,12 +35,12 @@ in_use_card = taken H4 (reserved 5) ∷ taken H2 (disabled plain) ∷ empty ∷ 
 abbrev pub later : List Exchange
 later =
     asking (install H1 plain) 0
-    ∷ asking (enable H2 (Kept 9)) 4
-    ∷ asking (enable H2 (Kept 3)) 0
-    ∷ asking (enable H2 (Kept 8)) 0
+    ∷ asking (enable H2 (Some 9)) 4
+    ∷ asking (enable H2 (Some 3)) 0
+    ∷ asking (enable H2 (Some 8)) 0
     ∷ asking (retrieve H2 H3) 0
     ∷ asking (rek H3 H4) 6
-    ∷ asking (enable H3 (Kept 2)) 0
+    ∷ asking (enable H3 (Some 2)) 0
     ∷ asking (remove H1) 0
     ∷ asking (install H1 other) 7
     ∷ []
@@ -52,7 +52,7 @@ exchanged = asking (install H1 plain) 0 ∷ asking (rek H1 H2) 0 ∷ later
 pub record Hold : Type 0 where
   -- the ledger is read off the slots in their order; an installation then closes its setup, and its right comes after those that were there
   pub read_off : ledger_of in_use_card ≡ record { setups = open_setup H4 5 ∷ open_setup H0 9 ∷ []; rights = lent H2 plain ∷ for_use H1 other ∷ [] }
-  pub goes_on : history (ledger_of in_use_card) (asking (install H0 plain) 0 ∷ asking (rek H1 H3) 0 ∷ asking (enable H2 (Kept 3)) 4 ∷ [])
+  pub goes_on : history (ledger_of in_use_card) (asking (install H0 plain) 0 ∷ asking (rek H1 H3) 0 ∷ asking (enable H2 (Some 3)) 4 ∷ [])
       ≡ record { setups = open_setup H4 5 ∷ []; rights = lent H2 plain ∷ lent H3 other ∷ for_use H0 plain ∷ [] }
   -- records agree: not one that is missing, that no right or setup has, that is of another place, or that stands twice
   pub missing : ¬ Records (ledger_with (for_use H1 plain ∷ [])) (empty ∷ [])
@@ -63,17 +63,17 @@ pub record Hold : Type 0 where
   -- rights hold what was sent: not where there is none, where none was installed, or with another key, hash, payload or count
   pub lost : ¬ Contents blank_ledger (asking (install H1 plain) 0 ∷ []) blank_ledger
   pub refused : ¬ Contents blank_ledger (asking (install H1 plain) 7 ∷ []) (ledger_with (for_use H1 plain ∷ []))
-  pub other_key : ¬ Contents blank_ledger (asking (install H1 plain) 0 ∷ []) (ledger_with (for_use H1 (right_with L (Kept 7) (A ∷ []) five) ∷ []))
-  pub other_hash : ¬ Contents blank_ledger (asking (install H1 plain) 0 ∷ []) (ledger_with (for_use H1 (right_with K (Kept 7) (B ∷ []) five) ∷ []))
-  pub other_payload : ¬ Contents blank_ledger (asking (install H1 plain) 0 ∷ []) (ledger_with (lent H1 (right_with K (Kept 7) (A ∷ []) (hex "BC")) ∷ []))
-  pub other_count : ¬ Contents blank_ledger (asking (install H1 plain) 0 ∷ []) (ledger_with (gone (right_with K (Kept 8) (A ∷ []) five) ∷ []))
-  pub other_bit : ¬ Contents blank_ledger (asking (install H1 (right_with K (Kept 0) (A ∷ []) five)) 0 ∷ []) (ledger_with (for_use H1 (right_with K NoneKept (A ∷ []) five) ∷ []))
+  pub other_key : ¬ Contents blank_ledger (asking (install H1 plain) 0 ∷ []) (ledger_with (for_use H1 (right_with L (Some 7) (A ∷ []) five) ∷ []))
+  pub other_hash : ¬ Contents blank_ledger (asking (install H1 plain) 0 ∷ []) (ledger_with (for_use H1 (right_with K (Some 7) (B ∷ []) five) ∷ []))
+  pub other_payload : ¬ Contents blank_ledger (asking (install H1 plain) 0 ∷ []) (ledger_with (lent H1 (right_with K (Some 7) (A ∷ []) (hex "BC")) ∷ []))
+  pub other_count : ¬ Contents blank_ledger (asking (install H1 plain) 0 ∷ []) (ledger_with (gone (right_with K (Some 8) (A ∷ []) five) ∷ []))
+  pub other_bit : ¬ Contents blank_ledger (asking (install H1 (right_with K (Some 0) (A ∷ []) five)) 0 ∷ []) (ledger_with (for_use H1 (right_with K None (A ∷ []) five) ∷ []))
   -- a right that was there at first holds what it held, and comes before those installed: not with another key or count, nor in place of an installed one
-  pub another : ¬ Contents (ledger_with (for_use H1 plain ∷ [])) [] (ledger_with (for_use H1 (right_with L (Kept 7) (A ∷ []) five) ∷ []))
-  pub not_returned : ¬ Contents (ledger_with (lent H2 plain ∷ [])) (asking (enable H2 (Kept 3)) 0 ∷ []) (ledger_with (for_use H2 plain ∷ []))
+  pub another : ¬ Contents (ledger_with (for_use H1 plain ∷ [])) [] (ledger_with (for_use H1 (right_with L (Some 7) (A ∷ []) five) ∷ []))
+  pub not_returned : ¬ Contents (ledger_with (lent H2 plain ∷ [])) (asking (enable H2 (Some 3)) 0 ∷ []) (ledger_with (for_use H2 plain ∷ []))
   pub out_of_order : ¬ Contents (ledger_with (for_use H1 plain ∷ [])) (asking (install H3 other) 0 ∷ []) (ledger_with (for_use H3 other ∷ for_use H1 plain ∷ []))
   pub one_too_many : ¬ Contents (ledger_with (gone plain ∷ [])) [] (ledger_with (gone plain ∷ gone plain ∷ []))
-  pub counts_then : map (λ o. count_after o later) (for_use H1 plain ∷ lent H3 plain ∷ gone plain ∷ []) ≡ Kept 7 ∷ Kept 2 ∷ Kept 7 ∷ []
+  pub counts_then : map (λ o. count_after o later) (for_use H1 plain ∷ lent H3 plain ∷ gone plain ∷ []) ≡ Some 7 ∷ Some 2 ∷ Some 7 ∷ []
   -- kinds 4 and 3 send a key
   pub by_rek : KeyOut after7 (calling (tally_with 0 0 1 0 5) (hex "24 80 00 14" ++ H1 ++ H2)) H1 H2
   pub by_retrieval : KeyOut hashed2 (calling (tally_with 0 0 1 0 1) (hex "23 80 00 14" ++ H3 ++ H4)) H3 H4
@@ -84,19 +84,19 @@ pub record Hold : Type 0 where
   pub other_tally : ¬ KeyOut after7 (calling (tally_with 0 0 0 1 5) (hex "24 80 00 14" ++ H1 ++ H2)) H1 H2
   -- returns that succeeded, under H1 to H4
   pub returns : map (λ k. returned k exchanged) (H1 ∷ H2 ∷ H3 ∷ H4 ∷ []) ≡ false ∷ true ∷ true ∷ false ∷ []
-  pub refused_return : returned H2 (asking (enable H2 (Kept 9)) 4 ∷ []) ≡ false
+  pub refused_return : returned H2 (asking (enable H2 (Some 9)) 4 ∷ []) ≡ false
   -- the installations that succeeded, and the count that the first of them, and one lent under H3, has at the end
   pub sent : map (λ p. p.right) (installations exchanged) ≡ plain ∷ plain ∷ []
   pub named : map (λ p. p.handle) (installations exchanged) ≡ H1 ∷ H1 ∷ []
   pub after_each : map (λ p. p.later) (installations exchanged) ≡ (asking (rek H1 H2) 0 ∷ later) ∷ drop 1 later ∷ []
-  pub last_counts : last_count H1 false (Kept 7) (asking (rek H1 H2) 0 ∷ later) ∷ last_count H1 false (Kept 7) (drop 1 later) ∷ last_count H3 true (Kept 7) later ∷ last_count H2 false (Kept 7) [] ∷ []
-      ≡ Kept 2 ∷ Kept 7 ∷ Kept 2 ∷ Kept 7 ∷ []
+  pub last_counts : last_count H1 false (Some 7) (asking (rek H1 H2) 0 ∷ later) ∷ last_count H1 false (Some 7) (drop 1 later) ∷ last_count H3 true (Some 7) later ∷ last_count H2 false (Some 7) [] ∷ []
+      ≡ Some 2 ∷ Some 7 ∷ Some 2 ∷ Some 7 ∷ []
   -- a return that is sent again gives no count; nor does one under the handle of a right that is gone
-  pub sent_again : last_count H2 true (Kept 7) (take 4 later) ≡ Kept 3
-  pub no_longer : last_count H1 true (Kept 7) (asking (remove H1) 0 ∷ asking (enable H1 (Kept 3)) 0 ∷ []) ≡ Kept 7
+  pub sent_again : last_count H2 true (Some 7) (take 4 later) ≡ Some 3
+  pub no_longer : last_count H1 true (Some 7) (asking (remove H1) 0 ∷ asking (enable H1 (Some 3)) 0 ∷ []) ≡ Some 7
   -- used up, a count is kept still; returned without one, none is
-  pub used_up : last_count H2 true (Kept 1) (asking (enable H2 (Kept 0)) 0 ∷ []) ≡ Kept 0
-  pub given_up : last_count H2 true (Kept 1) (asking (enable H2 NoneKept) 0 ∷ []) ≡ NoneKept
+  pub used_up : last_count H2 true (Some 1) (asking (enable H2 (Some 0)) 0 ∷ []) ≡ Some 0
+  pub given_up : last_count H2 true (Some 1) (asking (enable H2 None) 0 ∷ []) ≡ None
   pub holds : map held (for_use H1 plain ∷ lent H1 other ∷ gone plain ∷ []) ≡ plain ∷ other ∷ plain ∷ []
   -- an enabled and a disabled record with other keys, beside an empty slot and a reservation
   pub alike : AlikeButKeys (after7 ++ blank ++ after9 ++ waiting) (rekeyed L after7 ++ blank ++ rekeyed (replicate 16 0x00) after9 ++ waiting)

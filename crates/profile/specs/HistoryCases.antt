@@ -2,7 +2,7 @@
 use Rattle.std.specs.Prelude.{ℕ, ◌≡◌, List, [], ◌∷◌, ◌++◌, map, take, replicate}
 use Rattle.std.proofs.Math.Option.{none, some}
 use Rattle.profile.specs.Bytes.{Bytes}
-use Rattle.profile.specs.Slot.{Kept, Right, right_with, reserved, enabled, disabled, empty, taken}
+use Rattle.profile.specs.Slot.{Some, Right, right_with, reserved, enabled, disabled, empty, taken}
 use Rattle.profile.specs.Frame.{parameter}
 use Rattle.profile.specs.Request.{Request, setup, install, retrieve, rek, enable, remove, cancel, list, info, asks, refused, no_frame}
 use Rattle.profile.specs.Tally.{Tally, tally_with}
@@ -14,16 +14,16 @@ use Rattle.profile.specs.CaseTables.{blank, lent7}
 
 -- a right with a kept count of 7, the same with 3, and another
 abbrev pub plain : Right
-plain = right_with K (Kept 7) (A ∷ []) five
+plain = right_with K (Some 7) (A ∷ []) five
 
 abbrev pub counted3 : Right
-counted3 = right_with K (Kept 3) (A ∷ []) five
+counted3 = right_with K (Some 3) (A ∷ []) five
 
 abbrev pub other : Right
-other = right_with L (Kept 258) (A ∷ []) (hex "BC")
+other = right_with L (Some 258) (A ∷ []) (hex "BC")
 
 abbrev pub other3 : Right
-other3 = right_with L (Kept 3) (A ∷ []) (hex "BC")
+other3 = right_with L (Some 3) (A ∷ []) (hex "BC")
 
 -- ---- one exchange after another state: two setups; a right for use under H1, one lent under H2, one gone
 abbrev pub before : Ledger
@@ -49,9 +49,9 @@ tellings =
     ∷ record { request = rek H1_last H1; status = 0; after = before }
     -- the right under the handle, lent or for use
     ∷ record { request = retrieve H2 H1_last; status = 0; after = record { setups = open_setup H3 5 ∷ open_setup H4 9 ∷ []; rights = for_use H1 plain ∷ lent H1_last other ∷ gone plain ∷ [] } }
-    ∷ record { request = enable H2 (Kept 3); status = 0; after = record { setups = open_setup H3 5 ∷ open_setup H4 9 ∷ []; rights = for_use H1 plain ∷ for_use H2 other3 ∷ gone plain ∷ [] } }
-    ∷ record { request = enable H1 (Kept 3); status = 0; after = before }
-    ∷ record { request = enable H3 (Kept 3); status = 0; after = before }
+    ∷ record { request = enable H2 (Some 3); status = 0; after = record { setups = open_setup H3 5 ∷ open_setup H4 9 ∷ []; rights = for_use H1 plain ∷ for_use H2 other3 ∷ gone plain ∷ [] } }
+    ∷ record { request = enable H1 (Some 3); status = 0; after = before }
+    ∷ record { request = enable H3 (Some 3); status = 0; after = before }
     ∷ record { request = remove H1; status = 0; after = record { setups = open_setup H3 5 ∷ open_setup H4 9 ∷ []; rights = gone plain ∷ lent H2 other ∷ gone plain ∷ [] } }
     ∷ record { request = remove H2; status = 0; after = record { setups = open_setup H3 5 ∷ open_setup H4 9 ∷ []; rights = for_use H1 plain ∷ gone other ∷ gone plain ∷ [] } }
     ∷ record { request = remove H3; status = 0; after = before }
@@ -65,7 +65,7 @@ tellings =
     ∷ record { request = install H3 plain; status = 1; after = before }
     ∷ record { request = retrieve H1 H2; status = 5; after = before }
     ∷ record { request = rek H2 H1_last; status = 6; after = before }
-    ∷ record { request = enable H2 (Kept 3); status = 4; after = before }
+    ∷ record { request = enable H2 (Some 3); status = 4; after = before }
     ∷ record { request = remove H1; status = 8; after = before }
     ∷ record { request = cancel H3; status = 255; after = before }
     ∷ []
@@ -102,8 +102,8 @@ run =
 -- how it might go on: the return, twice, a lending by kind 3, a removal, a setup cancelled and one that stays
 abbrev pub further : List Exchange
 further =
-    asking (enable H2 (Kept 3)) 0
-    ∷ asking (enable H2 (Kept 4)) 0
+    asking (enable H2 (Some 3)) 0
+    ∷ asking (enable H2 (Some 4)) 0
     ∷ asking (retrieve H1 H3) 0
     ∷ asking (remove H3) 0
     ∷ asking (setup H4 5) 0

@@ -2,7 +2,7 @@
 use Rattle.std.specs.Prelude.{ℕ, ◌≡◌, List, [], ◌∷◌, ◌++◌, map, true, false, take, replicate}
 use Prim.Native.String.{String}
 use Rattle.profile.specs.Bytes.{Bytes, joined}
-use Rattle.profile.specs.Slot.{NoneKept, Kept, right_with}
+use Rattle.profile.specs.Slot.{None, Some, right_with}
 use Rattle.profile.specs.Frame.{integrity, parameter, unsupported, not_found, duplicate, unexpected, no_space, count_raised}
 use Rattle.profile.specs.Agent.{nothing, the_right, the_key, handles, counted, deny, done, Answer, reply_frame}
 use Rattle.profile.specs.Device.{Reply, malformed, failed, gave, read_reply, sent}
@@ -127,13 +127,13 @@ shapes =
     ∷ bad (hex "24 00 00 11" ++ key ++ hex "00")
     ∷ bad (hex "24 00 00 00")
     -- 9: a count, and a payload of 1 to 4,096 bytes
-    ∷ (hex "29 80 00 03 31 32 51", gave 9 (counted (Kept 0x3132) (hex "51")))
-    ∷ (hex "29 80 00 04 00 07 51 52", gave 9 (counted (Kept 7) (hex "51 52")))
-    ∷ (hex "29 80 00 03 00 00 51", gave 9 (counted (Kept 0) (hex "51")))
-    ∷ (hex "29 00 00 03 00 00 51", gave 9 (counted NoneKept (hex "51")))
+    ∷ (hex "29 80 00 03 31 32 51", gave 9 (counted (Some 0x3132) (hex "51")))
+    ∷ (hex "29 80 00 04 00 07 51 52", gave 9 (counted (Some 7) (hex "51 52")))
+    ∷ (hex "29 80 00 03 00 00 51", gave 9 (counted (Some 0) (hex "51")))
+    ∷ (hex "29 00 00 03 00 00 51", gave 9 (counted None (hex "51")))
     ∷ bad (hex "29 00 00 03 00 01 51")
     ∷ bad (hex "29 00 00 03 01 00 51")
-    ∷ (sized "29 80" (hex "31 32" ++ replicate 4096 0x5A), gave 9 (counted (Kept 0x3132) (replicate 4096 0x5A)))
+    ∷ (sized "29 80" (hex "31 32" ++ replicate 4096 0x5A), gave 9 (counted (Some 0x3132) (replicate 4096 0x5A)))
     ∷ bad (sized "29 80" (hex "31 32" ++ replicate 4097 0x5A))
     ∷ bad (hex "29 80 00 02 31 32")
     ∷ bad (hex "29 80 00 01 31")
@@ -159,7 +159,7 @@ abbrev pub right : String → Bytes → Bytes
 right middle rest = sized "23 80" (key ++ hex middle ++ rest)
 
 abbrev pub gives_right : List Bytes → Bytes → Reply
-gives_right hs payload = gave 3 (the_right (right_with key (Kept 0x3132) hs payload))
+gives_right hs payload = gave 3 (the_right (right_with key (Some 0x3132) hs payload))
 
 unfoldable pub rights : List Case
 rights =
@@ -182,8 +182,8 @@ rights =
     ∷ bad (hex "23 80 00 12" ++ key ++ hex "31 32")
     ∷ bad (hex "23 00 00 00")
     -- no count kept, and a kept count of 0; a count that is not 0 without its bit
-    ∷ (hex "23 00 00 14" ++ key ++ hex "00 00 00 51", gave 3 (the_right (right_with key NoneKept [] (hex "51"))))
-    ∷ (hex "23 80 00 14" ++ key ++ hex "00 00 00 51", gave 3 (the_right (right_with key (Kept 0) [] (hex "51"))))
+    ∷ (hex "23 00 00 14" ++ key ++ hex "00 00 00 51", gave 3 (the_right (right_with key None [] (hex "51"))))
+    ∷ (hex "23 80 00 14" ++ key ++ hex "00 00 00 51", gave 3 (the_right (right_with key (Some 0) [] (hex "51"))))
     ∷ bad (hex "23 00 00 14" ++ key ++ hex "00 01 00 51")
     ∷ bad (hex "23 00 00 14" ++ key ++ hex "01 00 00 51")
     ∷ []
@@ -200,15 +200,15 @@ answers =
     ∷ (1, deny no_space, hex "21 07 00 00")
     ∷ (5, deny count_raised, hex "25 09 00 00")
     ∷ (7, done nothing [], hex "27 00 00 00")
-    ∷ (3, done (the_right (right_with key (Kept 0x3132) (p ∷ q ∷ []) (hex "51 52"))) [], hex "23 80 00 3D" ++ key ++ hex "31 32 20" ++ p ++ q ++ hex "51 52")
-    ∷ (3, done (the_right (right_with key (Kept 0) [] (hex "51"))) [], hex "23 80 00 14" ++ key ++ hex "00 00 00 51")
-    ∷ (3, done (the_right (right_with key NoneKept [] (hex "51"))) [], hex "23 00 00 14" ++ key ++ hex "00 00 00 51")
+    ∷ (3, done (the_right (right_with key (Some 0x3132) (p ∷ q ∷ []) (hex "51 52"))) [], hex "23 80 00 3D" ++ key ++ hex "31 32 20" ++ p ++ q ++ hex "51 52")
+    ∷ (3, done (the_right (right_with key (Some 0) [] (hex "51"))) [], hex "23 80 00 14" ++ key ++ hex "00 00 00 51")
+    ∷ (3, done (the_right (right_with key None [] (hex "51"))) [], hex "23 00 00 14" ++ key ++ hex "00 00 00 51")
     ∷ (4, done (the_key key) [], hex "24 00 00 10" ++ key)
     ∷ (8, done (handles true (h ∷ n ∷ [])) [], hex "28 00 00 15 80" ++ h ++ n)
     ∷ (8, done (handles false (h ∷ [])) [], hex "28 00 00 0B 00" ++ h)
-    ∷ (9, done (counted (Kept 0x3132) (hex "51 52")) [], hex "29 80 00 04 31 32 51 52")
-    ∷ (9, done (counted (Kept 0) (hex "51")) [], hex "29 80 00 03 00 00 51")
-    ∷ (9, done (counted NoneKept (hex "51")) [], hex "29 00 00 03 00 00 51")
+    ∷ (9, done (counted (Some 0x3132) (hex "51 52")) [], hex "29 80 00 04 31 32 51 52")
+    ∷ (9, done (counted (Some 0) (hex "51")) [], hex "29 80 00 03 00 00 51")
+    ∷ (9, done (counted None (hex "51")) [], hex "29 00 00 03 00 00 51")
     ∷ []
 
 -- ---- the whole table: it is what the reader says; and answers are sent as these frames, and read as what was sent

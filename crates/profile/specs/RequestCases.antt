@@ -2,7 +2,7 @@
 use Prim.Native.String.{String}
 use Rattle.std.specs.Prelude.{◌≡◌, List, [], ◌∷◌, ◌++◌, map, ℕ, Bool, true, false, take, replicate}
 use Rattle.profile.specs.Bytes.{Bytes, joined}
-use Rattle.profile.specs.Slot.{NoneKept, Kept, right_with}
+use Rattle.profile.specs.Slot.{None, Some, right_with}
 use Rattle.profile.specs.Frame.{Kind, setup_kind, install_kind, retrieve_kind, rek_kind, enable_kind, remove_kind, cancel_kind, list_kind, info_kind, version_holds, kind_number, hash_count_at18, Refusal, integrity, parameter, unsupported}
 use Rattle.profile.specs.Request.{Request, setup, install, retrieve, rek, enable, remove, cancel, list, info}
 use Rattle.profile.specs.Request.{Read, asks, refused, no_frame, verdict, kept_asked, zero_bits, body_fits, sends_hash, read_request, write_request}
@@ -26,15 +26,15 @@ right head middle rest = sized head (h ++ key ++ hex middle ++ rest)
 unfoldable pub requests : List Case
 requests =
     reads (hex "21 80 00 0C" ++ h ++ hex "31 32") (setup h 0x3132)
-    ∷ reads (hex "22 C0 00 32" ++ h ++ key ++ hex "31 32 10" ++ p ++ hex "51") (install h (right_with key (Kept 0x3132) (p ∷ []) (hex "51")))
-    ∷ reads (hex "22 C0 00 33" ++ h ++ key ++ hex "31 32 10" ++ p ++ hex "51 52") (install h (right_with key (Kept 0x3132) (p ∷ []) (hex "51 52")))
-    ∷ reads (hex "22 80 00 47" ++ h ++ key ++ hex "00 00 20" ++ p ++ q ++ hex "00 52") (install h (right_with key NoneKept (p ∷ q ∷ []) (hex "00 52")))
-    ∷ reads (hex "22 C0 00 32" ++ h ++ key ++ hex "00 00 10" ++ p ++ hex "51") (install h (right_with key (Kept 0) (p ∷ []) (hex "51")))
+    ∷ reads (hex "22 C0 00 32" ++ h ++ key ++ hex "31 32 10" ++ p ++ hex "51") (install h (right_with key (Some 0x3132) (p ∷ []) (hex "51")))
+    ∷ reads (hex "22 C0 00 33" ++ h ++ key ++ hex "31 32 10" ++ p ++ hex "51 52") (install h (right_with key (Some 0x3132) (p ∷ []) (hex "51 52")))
+    ∷ reads (hex "22 80 00 47" ++ h ++ key ++ hex "00 00 20" ++ p ++ q ++ hex "00 52") (install h (right_with key None (p ∷ q ∷ []) (hex "00 52")))
+    ∷ reads (hex "22 C0 00 32" ++ h ++ key ++ hex "00 00 10" ++ p ++ hex "51") (install h (right_with key (Some 0) (p ∷ []) (hex "51")))
     ∷ reads (hex "23 80 00 14" ++ h ++ n) (retrieve h n)
     ∷ reads (hex "24 80 00 14" ++ h ++ n) (rek h n)
-    ∷ reads (hex "25 C0 00 0C" ++ h ++ hex "31 32") (enable h (Kept 0x3132))
-    ∷ reads (hex "25 C0 00 0C" ++ h ++ hex "00 00") (enable h (Kept 0))
-    ∷ reads (hex "25 80 00 0C" ++ h ++ hex "00 00") (enable h NoneKept)
+    ∷ reads (hex "25 C0 00 0C" ++ h ++ hex "31 32") (enable h (Some 0x3132))
+    ∷ reads (hex "25 C0 00 0C" ++ h ++ hex "00 00") (enable h (Some 0))
+    ∷ reads (hex "25 80 00 0C" ++ h ++ hex "00 00") (enable h None)
     ∷ reads (hex "26 80 00 0A" ++ h) (remove h)
     ∷ reads (hex "27 80 00 0A" ++ h) (cancel h)
     ∷ reads (hex "28 80 00 03 31 32 00") (list 0x3132 [])
@@ -189,7 +189,7 @@ field_tests =
     ∷ refuses (right "22 C0" "31 32 00" (p ++ hex "51")) parameter
     ∷ refuses (right "22 C0" "31 32 00" (replicate 4096 0x5A)) parameter
     -- 8 hashes, and more
-    ∷ reads (right "22 C0" "31 32 80" (eight ++ hex "51")) (install h (right_with key (Kept 0x3132) eight_hashes (hex "51")))
+    ∷ reads (right "22 C0" "31 32 80" (eight ++ hex "51")) (install h (right_with key (Some 0x3132) eight_hashes (hex "51")))
     ∷ refuses (right "22 C0" "31 32 90" (eight ++ p ++ hex "51")) parameter
     ∷ refuses (right "22 C0" "31 32 F0" (eight ++ eight ++ hex "51")) parameter
     -- the low half of the hash byte: each bit
@@ -200,24 +200,24 @@ field_tests =
     ∷ refuses (right "22 C0" "31 32 01" (hex "51 52")) parameter
     -- the payload: none, one byte, and hashes that overrun the body
     ∷ refuses (right "22 C0" "31 32 10" p) parameter
-    ∷ reads (right "22 C0" "31 32 10" (p ++ hex "51")) (install h (right_with key (Kept 0x3132) (p ∷ []) (hex "51")))
+    ∷ reads (right "22 C0" "31 32 10" (p ++ hex "51")) (install h (right_with key (Some 0x3132) (p ∷ []) (hex "51")))
     ∷ refuses (right "22 C0" "31 32 20" (p ++ take 19 q)) parameter
     ∷ refuses (right "22 C0" "31 32 80" eight) parameter
     ∷ refuses (right "22 C0" "31 32 10" (hex "51")) parameter
     -- 4,096 and 4,097 bytes
-    ∷ reads (right "22 C0" "31 32 10" (p ++ replicate 4096 0x5A)) (install h (right_with key (Kept 0x3132) (p ∷ []) (replicate 4096 0x5A)))
+    ∷ reads (right "22 C0" "31 32 10" (p ++ replicate 4096 0x5A)) (install h (right_with key (Some 0x3132) (p ∷ []) (replicate 4096 0x5A)))
     ∷ refuses (right "22 C0" "31 32 10" (p ++ replicate 4097 0x5A)) parameter
-    ∷ reads (right "22 C0" "31 32 80" (eight ++ replicate 4096 0x5A)) (install h (right_with key (Kept 0x3132) eight_hashes (replicate 4096 0x5A)))
+    ∷ reads (right "22 C0" "31 32 80" (eight ++ replicate 4096 0x5A)) (install h (right_with key (Some 0x3132) eight_hashes (replicate 4096 0x5A)))
     ∷ refuses (right "22 C0" "31 32 80" (eight ++ replicate 4097 0x5A)) parameter
     -- a count that is not 0 without its bit, in kinds 2 and 5; with the number 0 none is kept, and with the bit every number is one
     ∷ refuses (right "22 80" "00 01 10" (p ++ hex "51")) parameter
     ∷ refuses (right "22 80" "01 00 10" (p ++ hex "51")) parameter
-    ∷ reads (right "22 80" "00 00 10" (p ++ hex "51")) (install h (right_with key NoneKept (p ∷ []) (hex "51")))
-    ∷ reads (right "22 C0" "FF FF 10" (p ++ hex "51")) (install h (right_with key (Kept 65535) (p ∷ []) (hex "51")))
+    ∷ reads (right "22 80" "00 00 10" (p ++ hex "51")) (install h (right_with key None (p ∷ []) (hex "51")))
+    ∷ reads (right "22 C0" "FF FF 10" (p ++ hex "51")) (install h (right_with key (Some 65535) (p ∷ []) (hex "51")))
     ∷ refuses (hex "25 80 00 0C" ++ h ++ hex "00 01") parameter
     ∷ refuses (hex "25 80 00 0C" ++ h ++ hex "01 00") parameter
     ∷ refuses (hex "25 80 00 0C" ++ h ++ hex "FF FF") parameter
-    ∷ reads (hex "25 C0 00 0C" ++ h ++ hex "FF FF") (enable h (Kept 65535))
+    ∷ reads (hex "25 C0 00 0C" ++ h ++ hex "FF FF") (enable h (Some 65535))
     -- kind 8: 8 hashes, and more; a body that does not end with its last hash
     ∷ reads (sized "28 80" (hex "01 00 08" ++ eight)) (list 256 eight_hashes)
     ∷ refuses (sized "28 80" (hex "01 00 09" ++ eight ++ p)) parameter

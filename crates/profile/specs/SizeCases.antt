@@ -1,13 +1,13 @@
 -- PROFILE 1.3 and 2.4, in worked cases: which sizes fit, the least and the greatest, and which do not.
 use Rattle.std.specs.Prelude.{List, [], ◌∷◌, replicate}
 use Rattle.profile.specs.Bytes.{Bytes}
-use Rattle.profile.specs.Slot.{Kept, Right, right_with, reserved, enabled, disabled, empty, taken, RightFits, SlotFits, TableFits}
+use Rattle.profile.specs.Slot.{Some, Right, right_with, reserved, enabled, disabled, empty, taken, RightFits, SlotFits, TableFits}
 use Rattle.profile.specs.Request.{setup, install, retrieve, rek, enable, remove, cancel, list, info, Installable, RequestFits}
 use Rattle.profile.specs.CaseBytes.{hex, H1, H2, K, A, B}
 
 -- a right of these
 abbrev pub of : Bytes → List Bytes → Bytes → Right
-of key hashes payload = right_with key (Kept 7) hashes payload
+of key hashes payload = right_with key (Some 7) hashes payload
 
 -- the least right, the least that can be installed, and the greatest
 abbrev pub least : Right
@@ -73,7 +73,7 @@ pub record Hold : Type 0 where
   pub install_fits : RequestFits (install H1 most)
   pub retrieve_fits : RequestFits (retrieve H1 H1)
   pub rek_fits : RequestFits (rek H1 H2)
-  pub enable_fits : RequestFits (enable H1 (Kept 65535))
+  pub enable_fits : RequestFits (enable H1 (Some 65535))
   pub remove_fits : RequestFits (remove H1)
   pub cancel_fits : RequestFits (cancel H1)
   pub list_fits_lem : RequestFits (list 0 most.hashes)
@@ -86,7 +86,7 @@ pub record Hold : Type 0 where
   pub retrieve_11 : ¬ RequestFits (retrieve H1 H11)
   pub rek_9 : ¬ RequestFits (rek H9 H2)
   pub rek_11 : ¬ RequestFits (rek H1 H11)
-  pub enable_9 : ¬ RequestFits (enable H9 (Kept 3))
+  pub enable_9 : ¬ RequestFits (enable H9 (Some 3))
   pub remove_9 : ¬ RequestFits (remove H9)
   pub cancel_11 : ¬ RequestFits (cancel H11)
   pub list_9 : ¬ RequestFits (list 0 nine)

@@ -1,7 +1,7 @@
 -- PROFILE 2, in worked cases: which lengths and bytes make a table, and what the bytes of a slot say.
 use Rattle.std.specs.Prelude.{ℕ, ◌≡◌, List, [], ◌∷◌, ◌++◌, map, Bool, true, false, replicate}
 use Rattle.profile.specs.Bytes.{Bytes}
-use Rattle.profile.specs.Slot.{NoneKept, Kept, kept_bit, count_number, count_holds, count_with, raises, Right, right_with, recount, reserved, enabled, disabled, Slot, empty, taken, in_use, distinct}
+use Rattle.profile.specs.Slot.{None, Some, kept_bit, count_number, count_holds, count_with, raises, Right, right_with, recount, reserved, enabled, disabled, Slot, empty, taken, in_use, distinct}
 use Rattle.profile.specs.Table.{place_of, hash_count_of, kept_of, spare_of, unpack, pack, slots_of, table_of, whole_slots, well_slot, well_table}
 use Rattle.profile.specs.CaseBytes.{hex, changed, H0, H1, H2, H3, H1_last, H1_first, K, L, A, B, five}
 use Rattle.profile.specs.CaseTables.{blank, after1, after7, after9, after11, counted7, lent7, used_up, bare, bare_lent, roomy, longest, hashed1, hashed2, lent2, hashed8, nameless, keyless, twins}
@@ -131,7 +131,7 @@ tables =
 
 -- ---- PROFILE 2.5: the same of slots told without their bytes: whatever their places, and wherever they stand
 abbrev pub plain : Right
-plain = right_with K (Kept 7) (A ∷ []) five
+plain = right_with K (Some 7) (A ∷ []) five
 
 unfoldable pub handles : List (List Slot × Bool)
 handles =
@@ -155,17 +155,17 @@ slots =
     ∷ (after1, taken H1 (reserved 5))
     ∷ (roomy, taken H1 (reserved 4096))
     ∷ (nameless, taken H0 (reserved 5))
-    ∷ (after7, taken H1 (enabled (right_with K NoneKept (A ∷ []) five)))
-    ∷ (after9, taken H2 (disabled (right_with K NoneKept (A ∷ []) five)))
-    ∷ (counted7, taken H1 (enabled (right_with K (Kept 7) (A ∷ []) five)))
-    ∷ (lent7, taken H2 (disabled (right_with K (Kept 7) (A ∷ []) five)))
-    ∷ (used_up, taken H2 (enabled (right_with K (Kept 0) (A ∷ []) five)))
-    ∷ (bare, taken H1 (enabled (right_with K NoneKept [] five)))
-    ∷ (bare_lent, taken H2 (disabled (right_with K NoneKept [] five)))
-    ∷ (hashed1, taken H3 (enabled (right_with L (Kept 258) (A ∷ []) (hex "BC"))))
-    ∷ (hashed2, taken H3 (enabled (right_with L (Kept 258) (A ∷ B ∷ []) (hex "BC"))))
-    ∷ (lent2, taken H3 (disabled (right_with L (Kept 258) (A ∷ B ∷ []) (hex "BC"))))
-    ∷ (longest, taken H1 (enabled (right_with K (Kept 7) (A ∷ []) (replicate 4096 0x5A))))
+    ∷ (after7, taken H1 (enabled (right_with K None (A ∷ []) five)))
+    ∷ (after9, taken H2 (disabled (right_with K None (A ∷ []) five)))
+    ∷ (counted7, taken H1 (enabled (right_with K (Some 7) (A ∷ []) five)))
+    ∷ (lent7, taken H2 (disabled (right_with K (Some 7) (A ∷ []) five)))
+    ∷ (used_up, taken H2 (enabled (right_with K (Some 0) (A ∷ []) five)))
+    ∷ (bare, taken H1 (enabled (right_with K None [] five)))
+    ∷ (bare_lent, taken H2 (disabled (right_with K None [] five)))
+    ∷ (hashed1, taken H3 (enabled (right_with L (Some 258) (A ∷ []) (hex "BC"))))
+    ∷ (hashed2, taken H3 (enabled (right_with L (Some 258) (A ∷ B ∷ []) (hex "BC"))))
+    ∷ (lent2, taken H3 (disabled (right_with L (Some 258) (A ∷ B ∷ []) (hex "BC"))))
+    ∷ (longest, taken H1 (enabled (right_with K (Some 7) (A ∷ []) (replicate 4096 0x5A))))
     ∷ []
 
 -- ---- these are what the definitions say
@@ -178,15 +178,15 @@ pub record Hold : Type 0 where
   pub in_use_lem : map (λ h. in_use h (taken H1 (reserved 5) ∷ empty ∷ taken H2 (enabled plain) ∷ taken H3 (disabled plain) ∷ [])) (H1 ∷ H2 ∷ H3 ∷ H1_last ∷ H0 ∷ [])
       ≡ true ∷ true ∷ true ∷ false ∷ false ∷ []
   -- a right with another count
-  pub recounted : recount (Kept 3) plain ≡ right_with K (Kept 3) (A ∷ []) five
+  pub recounted : recount (Some 3) plain ≡ right_with K (Some 3) (A ∷ []) five
   -- PROFILE 2.6: a bit and a number: whether they say a count, which count they say, and how a count is said
   pub said : map (count_holds 0) (0 ∷ 1 ∷ 256 ∷ 65535 ∷ []) ++ map (count_holds 1) (0 ∷ 7 ∷ 65535 ∷ []) ≡ true ∷ false ∷ false ∷ false ∷ true ∷ true ∷ true ∷ []
   -- which counts raise one: fewer, as many, one more, none; of no count, none and a kept one
-  pub raised : map (raises (Kept 258)) (Kept 0 ∷ Kept 255 ∷ Kept 258 ∷ Kept 259 ∷ Kept 65535 ∷ NoneKept ∷ []) ++ map (raises (Kept 0)) (Kept 0 ∷ Kept 1 ∷ NoneKept ∷ []) ++ map (raises NoneKept) (NoneKept ∷ Kept 0 ∷ Kept 7 ∷ [])
+  pub raised : map (raises (Some 258)) (Some 0 ∷ Some 255 ∷ Some 258 ∷ Some 259 ∷ Some 65535 ∷ None ∷ []) ++ map (raises (Some 0)) (Some 0 ∷ Some 1 ∷ None ∷ []) ++ map (raises None) (None ∷ Some 0 ∷ Some 7 ∷ [])
       ≡ false ∷ false ∷ false ∷ true ∷ true ∷ true ∷ false ∷ true ∷ true ∷ false ∷ true ∷ true ∷ []
-  pub says : count_with 0 0 ∷ count_with 1 0 ∷ count_with 1 7 ∷ [] ≡ NoneKept ∷ Kept 0 ∷ Kept 7 ∷ []
-  pub bits : map kept_bit (NoneKept ∷ Kept 0 ∷ Kept 7 ∷ []) ≡ 0 ∷ 1 ∷ 1 ∷ []
-  pub numbers : map count_number (NoneKept ∷ Kept 0 ∷ Kept 7 ∷ []) ≡ 0 ∷ 0 ∷ 7 ∷ []
+  pub says : count_with 0 0 ∷ count_with 1 0 ∷ count_with 1 7 ∷ [] ≡ None ∷ Some 0 ∷ Some 7 ∷ []
+  pub bits : map kept_bit (None ∷ Some 0 ∷ Some 7 ∷ []) ≡ 0 ∷ 1 ∷ 1 ∷ []
+  pub numbers : map count_number (None ∷ Some 0 ∷ Some 7 ∷ []) ≡ 0 ∷ 0 ∷ 7 ∷ []
   -- PROFILE 2.2, byte 0: place, hash count, the bit of a count, the spare bit
   pub places : map (λ b. place_of (b ∷ [])) (0x3F ∷ 0x40 ∷ 0x80 ∷ 0xC0 ∷ []) ≡ 0 ∷ 1 ∷ 2 ∷ 3 ∷ []
   pub counts : map (λ b. hash_count_of (b ∷ [])) (0xC3 ∷ 0x04 ∷ 0xE0 ∷ 0x3C ∷ []) ≡ 0 ∷ 1 ∷ 8 ∷ 15 ∷ []

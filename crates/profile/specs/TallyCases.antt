@@ -1,7 +1,7 @@
 -- PROFILE 2.8 and 8.5 in worked cases: tallies by hand, tallies worked out, and what it is to carry one along.
 use Rattle.std.specs.Prelude.{◌≡◌, List, [], ◌∷◌, ◌++◌, map, true, false, replicate}
 use Rattle.profile.specs.Bytes.{Bytes}
-use Rattle.profile.specs.Slot.{NoneKept, Kept, right_with, reserved, enabled, disabled, Slot, empty, taken}
+use Rattle.profile.specs.Slot.{None, Some, right_with, reserved, enabled, disabled, Slot, empty, taken}
 use Rattle.profile.specs.Tally.{Tally, tally_with, in_slot, plus, tally_of, tally_in, same_tally, Tallied, tallied, work_out}
 use Rattle.profile.specs.Agent.{Call}
 use Rattle.profile.specs.Run.{numbers_then}
@@ -15,8 +15,8 @@ unfoldable pub slots : List (Slot × Tally)
 slots =
     (empty, tally_with 1 0 0 0 0)
     ∷ (taken H1 (reserved 5), tally_with 0 1 0 0 0)
-    ∷ (taken H1 (enabled (right_with K (Kept 7) (A ∷ []) five)), tally_with 0 0 1 0 5)
-    ∷ (taken H2 (disabled (right_with L NoneKept [] (hex "BC"))), tally_with 0 0 0 1 1)
+    ∷ (taken H1 (enabled (right_with K (Some 7) (A ∷ []) five)), tally_with 0 0 1 0 5)
+    ∷ (taken H2 (disabled (right_with L None [] (hex "BC"))), tally_with 0 0 0 1 1)
     ∷ []
 
 -- ---- tables, and their tallies

@@ -2,7 +2,7 @@
 use Rattle.std.specs.Prelude.{ℕ, ◌+◌, ◌*◌, List, [], ◌∷◌, Bool, ◌&&◌, not, eqb, leb, ltb, ℤ, pos, nat_abs, ◌+ℤ◌, ◌-ℤ◌, if◌then◌else◌}
 use Rattle.profile.specs.Bytes.{Bytes}
 use Rattle.profile.specs.Sizes.{most_returns, most_change, total_outside}
-use Rattle.profile.specs.Slot.{Count, NoneKept, Kept, reserved, enabled, disabled, Slot}
+use Rattle.profile.specs.Slot.{Count, None, Some, reserved, enabled, disabled, Slot}
 use Rattle.profile.specs.Table.{slots_of}
 use Rattle.profile.specs.Request.{Request, setup, install, retrieve, rek, enable, remove, cancel, list, info}
 use Rattle.profile.specs.Agent.{Found, absent, one, find, Call, Outcome, refuse, agent}
@@ -44,16 +44,16 @@ return_of table c = return_in (slots_of table) (exchange_of table c)
 -- the change: the count sent minus the count stored, where both are kept; else 0
 abbrev pub change : Return → ℤ
 change no_return = pos 0
-change (returned NoneKept sent) = pos 0
-change (returned (Kept a) NoneKept) = pos 0
-change (returned (Kept a) (Kept b)) = pos b -ℤ pos a
+change (returned None sent) = pos 0
+change (returned (Some a) None) = pos 0
+change (returned (Some a) (Some b)) = pos b -ℤ pos a
 
 -- one that is counted counts for 1: where both counts are kept, also where they are the same
 abbrev pub counted : Return → ℕ
 counted no_return = 0
-counted (returned NoneKept sent) = 0
-counted (returned (Kept a) NoneKept) = 0
-counted (returned (Kept a) (Kept b)) = 1
+counted (returned None sent) = 0
+counted (returned (Some a) None) = 0
+counted (returned (Some a) (Some b)) = 1
 
 abbrev pub change_of : Bytes → Call → ℤ
 change_of table c = change (return_of table c)

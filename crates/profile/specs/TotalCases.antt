@@ -1,7 +1,7 @@
 -- PROFILE 4.4, 4.5, 8.7 and 9.8 in worked cases: what returns do to counts, totalling calls, what a ledger tells of them, and sequences of such calls.
 use Rattle.std.specs.Prelude.{ℕ, ◌≡◌, List, [], ◌∷◌, ◌++◌, map, true, false, ℤ, pos, neg_ℤ, take}
 use Rattle.profile.specs.Bytes.{Bytes}
-use Rattle.profile.specs.Slot.{NoneKept, Kept, Right, right_with, reserved, enabled, disabled, empty, taken}
+use Rattle.profile.specs.Slot.{None, Some, Right, right_with, reserved, enabled, disabled, empty, taken}
 use Rattle.profile.specs.Tally.{tally_with}
 use Rattle.profile.specs.Request.{Request, setup, install, retrieve, rek, enable, remove, cancel, list, info}
 use Rattle.profile.specs.Agent.{Call}
@@ -148,10 +148,10 @@ beyond =
 
 -- ---- what a ledger tells: two rights that are lent, one with a count of 7 and one without; one for use, and one that is gone
 abbrev pub seven : Right
-seven = right_with K (Kept 7) (A ∷ []) five
+seven = right_with K (Some 7) (A ∷ []) five
 
 abbrev pub free : Right
-free = right_with K NoneKept (A ∷ []) five
+free = right_with K None (A ∷ []) five
 
 abbrev pub ledger : Ledger
 ledger = record { setups = []; rights = gone seven ∷ for_use H1 seven ∷ lent H2 seven ∷ lent H3 free ∷ [] }
@@ -163,15 +163,15 @@ asking q s = record { request = q; status = s }
 -- return that is refused, and one with more than was stored; requests of other kinds
 unfoldable pub tellings : List (Exchange × Return)
 tellings =
-    (asking (enable H2 (Kept 5)) 0, returned (Kept 7) (Kept 5))
-    ∷ (asking (enable H2 (Kept 9)) 0, no_return)
-    ∷ (asking (enable H1 (Kept 2)) 0, no_return)
-    ∷ (asking (enable H3 (Kept 2)) 0, returned NoneKept (Kept 2))
+    (asking (enable H2 (Some 5)) 0, returned (Some 7) (Some 5))
+    ∷ (asking (enable H2 (Some 9)) 0, no_return)
+    ∷ (asking (enable H1 (Some 2)) 0, no_return)
+    ∷ (asking (enable H3 (Some 2)) 0, returned None (Some 2))
     ∷ (asking (rek H1 H4) 0, no_return)
-    ∷ (asking (enable H4 NoneKept) 0, returned (Kept 7) NoneKept)
+    ∷ (asking (enable H4 None) 0, returned (Some 7) None)
     ∷ (asking (retrieve H2 H0) 0, no_return)
-    ∷ (asking (enable H0 (Kept 3)) 1, no_return)
-    ∷ (asking (enable H0 (Kept 6)) 0, returned (Kept 5) (Kept 6))
+    ∷ (asking (enable H0 (Some 3)) 1, no_return)
+    ∷ (asking (enable H0 (Some 6)) 0, returned (Some 5) (Some 6))
     ∷ (asking (setup H2 5) 0, no_return)
     ∷ (asking (install H2 seven) 0, no_return)
     ∷ (asking (list 0 []) 0, no_return)
@@ -200,11 +200,11 @@ pub record Hold : Type 0 where
   pub hold : map totals_hold bounds ≡ true ∷ true ∷ true ∷ true ∷ true ∷ true ∷ []
   pub not_hold : map totals_hold beyond ≡ false ∷ false ∷ false ∷ false ∷ false ∷ false ∷ false ∷ false ∷ false ∷ false ∷ []
   -- what a request returns on some slots: only an enablement of a record that is disabled
-  pub by_slots : map (λ h. return_by (taken H1 (enabled seven) ∷ empty ∷ taken H2 (disabled seven) ∷ taken H3 (reserved 5) ∷ []) (enable h (Kept 2))) (H1 ∷ H2 ∷ H3 ∷ H4 ∷ [])
-      ≡ no_return ∷ returned (Kept 7) (Kept 2) ∷ no_return ∷ no_return ∷ []
+  pub by_slots : map (λ h. return_by (taken H1 (enabled seven) ∷ empty ∷ taken H2 (disabled seven) ∷ taken H3 (reserved 5) ∷ []) (enable h (Some 2))) (H1 ∷ H2 ∷ H3 ∷ H4 ∷ [])
+      ≡ no_return ∷ returned (Some 7) (Some 2) ∷ no_return ∷ no_return ∷ []
   pub by_others : map (return_by (taken H2 (disabled seven) ∷ [])) (setup H2 5 ∷ install H2 seven ∷ retrieve H2 H1 ∷ rek H2 H1 ∷ remove H2 ∷ cancel H2 ∷ list 0 [] ∷ info H2 ∷ [])
       ≡ no_return ∷ no_return ∷ no_return ∷ no_return ∷ no_return ∷ no_return ∷ no_return ∷ no_return ∷ []
-  pub by_status : map (λ s. return_in (taken H2 (disabled seven) ∷ []) (asking (enable H2 (Kept 2)) s ∷ [])) (0 ∷ 1 ∷ 7 ∷ []) ≡ returned (Kept 7) (Kept 2) ∷ no_return ∷ no_return ∷ []
+  pub by_status : map (λ s. return_in (taken H2 (disabled seven) ∷ []) (asking (enable H2 (Some 2)) s ∷ [])) (0 ∷ 1 ∷ 7 ∷ []) ≡ returned (Some 7) (Some 2) ∷ no_return ∷ no_return ∷ []
   -- what a ledger tells, one after another; the sum of the changes, and how many are counted
   pub told : returns_told ledger (map (λ x. x.0) tellings) ≡ map (λ x. x.1) tellings
   pub summed : changes_of (map (λ x. x.1) tellings) ≡ below 1

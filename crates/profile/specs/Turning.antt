@@ -2,7 +2,7 @@
 use Rattle.std.specs.Prelude.{ℕ, ◌+◌, [], ◌∷◌, map, Bool, false, ◌&&◌, not, get_or, drop, eqb, if◌then◌else◌}
 use Rattle.profile.specs.Bytes.{Bytes, byte, word, all, joined}
 use Rattle.profile.specs.Sizes.{count_at, table_length, table_not_well_formed}
-use Rattle.profile.specs.Slot.{Count, NoneKept, Kept, kept_bit, Right, recount, reserved, enabled, disabled, Slot, empty, taken, distinct}
+use Rattle.profile.specs.Slot.{Count, None, Some, kept_bit, Right, recount, reserved, enabled, disabled, Slot, empty, taken, distinct}
 use Rattle.profile.specs.Table.{place_of, kept_of, spare_of, handle_of, length_of, right_of, well_rest, slot_bytes, slots_of, whole_slots}
 
 -- ---- the rules before: the two lowest bits of byte 0 were both to spare, and so 0; all else was as in PROFILE 2.4 and 2.5
@@ -14,7 +14,7 @@ well_table_before table = all well_before (slot_bytes table) && distinct (slots_
 
 -- ---- what such a slot holds: the number alone says the count, and 0 that none is kept
 abbrev pub count_before : Bytes → Count
-count_before s = if eqb (word count_at s) 0 then NoneKept else Kept (word count_at s)
+count_before s = if eqb (word count_at s) 0 then None else Some (word count_at s)
 
 abbrev pub right_before : Bytes → Right
 right_before s = recount (count_before s) (right_of s)

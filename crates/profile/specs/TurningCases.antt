@@ -1,7 +1,7 @@
 -- PROFILE 2.7, in worked cases: slots from before counts had their bit, what they hold, and tables turned.
 use Rattle.std.specs.Prelude.{ℕ, ◌≡◌, List, [], ◌∷◌, ◌++◌, map, Bool, true, false, replicate}
 use Rattle.profile.specs.Bytes.{Bytes}
-use Rattle.profile.specs.Slot.{NoneKept, Kept, right_with, reserved, enabled, disabled, Slot, empty, taken}
+use Rattle.profile.specs.Slot.{None, Some, right_with, reserved, enabled, disabled, Slot, empty, taken}
 use Rattle.profile.specs.Turning.{well_before, unpack_before, turn_slot, Turned, turn, keeps_count}
 use Rattle.profile.specs.CaseBytes.{hex, changed, H1, H2, H3, H4, K, L, A, B, five}
 use Rattle.profile.specs.CaseTables.{blank, after1, after7, after9, counted7, lent7, used_up, bare, hashed2, hashed8, longest, waiting}
@@ -60,13 +60,13 @@ unfoldable pub slots : List (Bytes × Slot)
 slots =
     (blank, empty)
     ∷ (after1, taken H1 (reserved 5))
-    ∷ (after7, taken H1 (enabled (right_with K NoneKept (A ∷ []) five)))
-    ∷ (after9, taken H2 (disabled (right_with K NoneKept (A ∷ []) five)))
-    ∷ (old7, taken H1 (enabled (right_with K (Kept 7) (A ∷ []) five)))
-    ∷ (old_high, taken H1 (enabled (right_with K (Kept 256) (A ∷ []) five)))
-    ∷ (old_lent7, taken H2 (disabled (right_with K (Kept 7) (A ∷ []) five)))
-    ∷ (old_bare, taken H1 (enabled (right_with K (Kept 7) [] five)))
-    ∷ (old2, taken H3 (enabled (right_with L (Kept 258) (A ∷ B ∷ []) (hex "BC"))))
+    ∷ (after7, taken H1 (enabled (right_with K None (A ∷ []) five)))
+    ∷ (after9, taken H2 (disabled (right_with K None (A ∷ []) five)))
+    ∷ (old7, taken H1 (enabled (right_with K (Some 7) (A ∷ []) five)))
+    ∷ (old_high, taken H1 (enabled (right_with K (Some 256) (A ∷ []) five)))
+    ∷ (old_lent7, taken H2 (disabled (right_with K (Some 7) (A ∷ []) five)))
+    ∷ (old_bare, taken H1 (enabled (right_with K (Some 7) [] five)))
+    ∷ (old2, taken H3 (enabled (right_with L (Some 258) (A ∷ B ∷ []) (hex "BC"))))
     ∷ []
 
 -- ---- tables, the number, and the table afterwards
@@ -108,5 +108,5 @@ pub record Hold : Type 0 where
   -- only byte 0 of a slot with a count changes
   pub bytes : map turn_slot (old7 ∷ old_lent7 ∷ after7 ∷ blank ∷ []) ≡ counted7 ∷ lent7 ∷ after7 ∷ blank ∷ []
   -- which slots keep a count
-  pub keeps : map keeps_count (empty ∷ taken H1 (reserved 5) ∷ taken H1 (enabled (right_with K NoneKept [] five)) ∷ taken H1 (enabled (right_with K (Kept 0) [] five)) ∷ taken H4 (disabled (right_with K (Kept 7) [] five)) ∷ [])
+  pub keeps : map keeps_count (empty ∷ taken H1 (reserved 5) ∷ taken H1 (enabled (right_with K None [] five)) ∷ taken H1 (enabled (right_with K (Some 0) [] five)) ∷ taken H4 (disabled (right_with K (Some 7) [] five)) ∷ [])
       ≡ false ∷ false ∷ false ∷ true ∷ true ∷ []

@@ -1,16 +1,16 @@
 -- PROFILE 2.9 and 8.6 in worked cases: what the words of their statements take in, and what they exclude.
 use Rattle.std.specs.Prelude.{◌≡◌, List, [], ◌∷◌, map}
 use Rattle.std.proofs.Math.Option.{none, some}
-use Rattle.profile.specs.Slot.{Kept, Right, right_with, recount, reserved, enabled, disabled, Slot, empty, taken}
+use Rattle.profile.specs.Slot.{Some, Right, right_with, recount, reserved, enabled, disabled, Slot, empty, taken}
 use Rattle.profile.specs.CaseBytes.{hex, H1, H2, H3, H4, K, L, A, B, five}
 use Rattle.profile.specs.Unlisted.{Listed, slot_right, HoldsRight, HoldsRightBut, FoundByCourse}
 
 -- a right without a hash, and one with two
 abbrev pub bare : Right
-bare = right_with K (Kept 7) [] five
+bare = right_with K (Some 7) [] five
 
 abbrev pub both : Right
-both = right_with L (Kept 258) (A ∷ B ∷ []) (hex "BC")
+both = right_with L (Some 258) (A ∷ B ∷ []) (hex "BC")
 
 -- a slot of each place: without a hash under H2, with two under H3 and, lent, under H4
 abbrev pub slots : List Slot
@@ -27,10 +27,10 @@ pub record Hold : Type 0 where
   pub not_empty : ¬ HoldsRight slots 0 bare
   pub not_outside : ¬ HoldsRight slots 5 bare
   -- with this count or another, but with no other key or payload
-  pub other_count : HoldsRightBut slots 2 (recount (Kept 1) bare)
-  pub other_key : ¬ HoldsRightBut slots 2 (right_with L (Kept 7) [] five)
-  pub other_payload : ¬ HoldsRightBut slots 2 (right_with K (Kept 7) [] (hex "BC"))
-  pub other_hashes : ¬ HoldsRightBut slots 2 (right_with K (Kept 7) (A ∷ []) five)
+  pub other_count : HoldsRightBut slots 2 (recount (Some 1) bare)
+  pub other_key : ¬ HoldsRightBut slots 2 (right_with L (Some 7) [] five)
+  pub other_payload : ¬ HoldsRightBut slots 2 (right_with K (Some 7) [] (hex "BC"))
+  pub other_hashes : ¬ HoldsRightBut slots 2 (right_with K (Some 7) (A ∷ []) five)
   -- the list of all has the handles of both; by a hash of the second it has that one alone; a lent right is on none
   pub bare_listed : Listed 5 slots [] H2
   pub both_listed : Listed 5 slots [] H3
