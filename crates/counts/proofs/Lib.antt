@@ -1,2 +1,0 @@
--- The law that the reader of a count cites.
-pub mod Bits
