@@ -1,2 +1,2 @@
--- The law that the builders of bit fields cite.
+-- The law that callers of the builders cite.
 pub mod Joining

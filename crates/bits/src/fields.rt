@@ -1,4 +1,6 @@
 // Bytes of packed bit fields, taken apart and built by shifts and masks; the first field stands in the most significant bits.
+// A function for each field that the profile names: its body is one shift and one mask already, so a generic one would only hide them. What comes in is the field's own
+// number, whether it says a place, a kind or a bit: which numbers are meant is for those who know the field.
 ghost use Rattle.std.specs.Prelude.{◌≡◌, ◌+◌, ◌*◌, ◌/◌, ◌%◌, ◌<◌, if◌then◌else◌};
 
 // Byte 0 of a slot has the place, the hash count, the bit of a count and a spare bit (PROFILE 2.2): the place's number.
@@ -77,7 +79,7 @@ pub fn flag_rest(b: u8) -> u8
 pub fn flag_byte(on: bool) -> u8
     ensures { result ≡ (if on then 128 else 0) }
 {
-    if on { 1 << 7 } else { 0 }
+    u8::from(on) << 7
 }
 
 // A bit as a flag with seven zero bits below it: the second byte of a success, whose status is 0 (PROFILE 3.2).
