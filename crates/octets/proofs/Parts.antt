@@ -1,12 +1,9 @@
--- Parts of a string: a byte of one, all of the string as one, and a part of what is left after an offset. Assumes nothing.
+-- Parts of a string: all of the string as one, and a part of what is left after an offset. Assumes nothing.
 use mathlib.Core.Path.{◌≡◌, ap}
-use Prim.Native.Nat.{ℕ, ◌+◌, ◌<◌}
-use lib.ListN.{length, take, drop, get_or}
-use lib.Seq.{get_or-take, get_or-drop, take-length, drop-drop}
+use Prim.Native.Nat.{ℕ, ◌+◌}
+use lib.ListN.{length, take, drop}
+use lib.Seq.{take-length, drop-drop}
 use Rattle.profile.specs.Bytes.{Bytes, part}
-
-pub byte_of_part : (at n : ℕ) (s : Bytes) (k : ℕ) → k < n → get_or (part at n s) k 0 ≡ get_or s (at + k) 0
-byte_of_part at n s k h = rw (get_or-take, get_or-drop)
 
 pub part_all : (s : Bytes) → part 0 (length s) s ≡ s
 part_all s = take-length s

@@ -1,18 +1,31 @@
 -- `octets::compare::same_from` meets its contract: the last byte, and then those before it. Assumes nothing.
-use mathlib.Core.Path.{sym}
+use Prim.Native.Nat.{◌+◌, ◌-◌}
 use native.Mathlib.Omega.{arith}
-use Rattle.octets.proofs.Comparing.{whole_none, whole_differs, whole_last}
+use lib.ListN.{length}
+use borrow.Author.Rules.{rules}
+use Rattle.std.proofs.Common.{tests}
+use Rattle.std.proofs.lemmas.Iterator.{YieldsList-from_slice, YieldsList-from_zip, same_from_all}
+use Rattle.octets.proofs.Comparing.{same_last, other_last}
 use Rattle.octets.proofs.compare.same_from.Goals as goal
 
-pub returns-then-n-eq0 : goal.returns-then-n-eq0
-returns-then-n-eq0 c =
-    let a = c.args in
-    sym (whole_none a.a.now a.s.now a.at c.if-n-eq0.true)
+pub returns-then-last-s : goal.returns-then-last-s
+returns-then-last-s c =
+    let cut = c.in-Some.ensures.cases in
+    let n = length c.in-Some.others.now in
+    same_last c.args.a.now c.args.s.now c.args.at _ _ cut.0 cut.1 c.requires c.if-last-s.true c.all.result (c.args.at + n - c.args.at) (omega arith) (λ m.
+    same_from_all
+    c.all.new.self
+    _
+    _
+    _
+    _
+    c.all.ensures.ran
+    (YieldsList-from_zip (YieldsList-from_slice _ cc) (YieldsList-from_slice _ cc))
+    m
+    (λ x q k. search (rules, tests))
+    (λ x q k. search (rules, tests)))
 
-pub returns-then-a-last : goal.returns-then-a-last
-returns-then-a-last c =
-    let a = c.args in
-    sym (whole_differs a.a.now a.s.now a.at _ (omega arith) c.if-a-last.true)
-
-pub returns : goal.returns
-returns c = rw (whole_last c.args.a.now c.args.s.now c.args.at _ (omega arith) c.requires c.if-a-last.false) at c.same_parts.ensures
+pub returns-else-last-s : goal.returns-else-last-s
+returns-else-last-s c =
+    let cut = c.in-Some.ensures.cases in
+    other_last c.args.a.now c.args.s.now _ _ _ cut.0 cut.1 c.requires c.if-last-s.false
