@@ -1,2 +1,1 @@
 pub mod ZeroBytes
-pub mod Filling

@@ -1,16 +1,18 @@
 -- Zero bytes, looked at one by one or block by block. Assumes nothing.
-use Prim.Native.Nat.{ℕ, ◌+◌, ◌-◌, ◌≤◌, ◌<◌}
+use Prim.Native.Nat.{ℕ, zero, suc, ◌+◌, ◌-◌, ◌*◌, ◌≤◌, ◌<◌}
 use mathlib.Core.Path.{◌≡◌, refl, sym, ap, ◌∙◌}
-use mathlib.Core.List.{[], ◌∷◌, ◌++◌}
-use mathlib.Core.Bool.{Bool, true, false, ◌&&◌, and_assoc, and-true, and-false}
+use mathlib.Core.List.{List, [], ◌∷◌, ◌++◌}
+use mathlib.Core.Bool.{Bool, true, false, ◌&&◌, and_assoc, and-false}
+use native.Mathlib.Nat.{zero-mul, suc-mul}
 use native.Mathlib.Numerals.{add-one}
 use native.Mathlib.Omega.{arith}
 use lib.Dec.{eqb}
 use lib.Bits.{bit_or, or_add_and, and_le_l, and_le_r}
-use lib.ListN.{length, get_or, take, drop, drop_of_length-le, length-drop, take-append-drop}
-use lib.Seq.{drop-cons, drop-drop, take_all}
+use lib.ListN.{length, get_or, take, drop, take-append-drop}
+use lib.Seq.{drop-cons, drop-drop}
 use borrow.Author.Tests.{eq-eqb, ne_eqb, eqb-true, eqb-false}
-use Rattle.profile.specs.Bytes.{Bytes, part, all_zero}
+use Rattle.std.specs.Simd.{first_chunks}
+use Rattle.profile.specs.Bytes.{Bytes, joined, all_zero}
 use Rattle.profile.proofs.Strings.{zero_drop}
 
 -- the OR of two numbers is 0 where both are
@@ -22,70 +24,49 @@ or_is_zero a b = go (eqb a 0) (eqb b 0) refl refl
     go true false e f = ne_eqb (bit_or a b) 0 (λ (z : bit_or a b ≡ 0). eqb-false b 0 f (omega (arith, z, or_add_and a b, and_le_l a b, eqb-true a 0 e)))
     go false q e f = ne_eqb (bit_or a b) 0 (λ (z : bit_or a b ≡ 0). eqb-false a 0 e (omega (arith, z, or_add_and a b, and_le_r a b)))
 
--- a turn of the loop that ORs, and its end
+-- a turn of the loop that ORs
 pub or_pass : (s : Bytes) (i acc : ℕ) → i < length s → (eqb acc 0 && all_zero (drop i s)) ≡ (eqb (bit_or acc (get_or s i 0)) 0 && all_zero (drop (i + 1) s))
 or_pass s i acc h = rw (add-one, drop-cons s i 0 h, or_is_zero, and_assoc)
-
-pub or_end : (s : Bytes) (i acc : ℕ) → length s ≤ i → (eqb acc 0 && all_zero (drop i s)) ≡ eqb acc 0
-or_end s i acc h = rw (drop_of_length-le s h, and-true)
 
 -- all of a join is 0 where both parts are
 pub zero_both : (a b : Bytes) → all_zero (a ++ b) ≡ (all_zero a && all_zero b)
 zero_both [] b = refl
 zero_both (x ∷ a) b = rw (zero_both a b, and_assoc)
 
--- the bytes from i on: a part of n, and those after it
-pub zero_split : (s : Bytes) (i n : ℕ) → all_zero (drop i s) ≡ (all_zero (part i n s) && all_zero (drop (i + n) s))
-zero_split s i n =
-    ap all_zero (sym (take-append-drop n (drop i s))) ∙ zero_both (part i n s) (drop n (drop i s)) ∙ rw (drop-drop n i s)
+zero_cut : (n : ℕ) (s : Bytes) → (all_zero (take n s) && all_zero (drop n s)) ≡ all_zero s
+zero_cut n s = sym (zero_both (take n s) (drop n s)) ∙ ap all_zero (take-append-drop n s)
 
--- a block from i to e that is all 0, one that is not, and the last
-pub zero_pass : (s : Bytes) (i e : ℕ) → i ≤ e → all_zero (part i (e - i) s) ≡ true → all_zero (drop i s) ≡ all_zero (drop e s)
-zero_pass s i e h z =
-    let f : i + (e - i) ≡ e = omega arith in
-    rw (zero_split s i (e - i), z, f)
+-- a turn over blocks: one that is all 0, and one that isn't, by the answer r
+module _ (q : List Bytes) (i : ℕ) (b : Bytes) (h : i < length q) (e : b ≡ get_or q i b) (r : Bool) (f : r ≡ all_zero b) where
+  pub block_zero : r ≡ true → all_zero (joined (drop i q)) ≡ all_zero (joined (drop (i + 1) q))
+  block_zero z = rw (drop-cons q i b h, add-one, ← e, zero_both, ← f, z)
 
-pub zero_stop : (s : Bytes) (i e : ℕ) → all_zero (part i (e - i) s) ≡ false → all_zero (drop i s) ≡ false
-zero_stop s i e z = rw (zero_split s i (e - i), z)
+  pub block_other : r ≡ false → all_zero (joined (drop i q)) ≡ r
+  block_other z = rw (drop-cons q i b h, ← e, zero_both, ← f, z)
 
-pub zero_last : (s : Bytes) (i : ℕ) → all_zero (part i (length s - i) s) ≡ all_zero (drop i s)
-zero_last s i = rw (take_all (length s - i) (drop i s) (simp length-drop (omega arith)))
+-- k blocks of n bytes, and the bytes after them
+chunks_zero : (n k : ℕ) (s : Bytes) → (all_zero (joined (first_chunks n k s)) && all_zero (drop (k * n) s)) ≡ all_zero s
+chunks_zero n zero s = rw zero-mul
+chunks_zero n (suc k) s =
+    let e : n + k * n ≡ suc k * n = rw suc-mul (omega arith) in
+    rw (← e, ← drop-drop (k * n) n s, zero_both, and_assoc, chunks_zero n k (drop n s)) (zero_cut n s)
 
--- ---- what is left to look at, after blocks that were all 0
-pub record Left (s rest : Bytes) : Type 0 where
-  pub short : length rest ≤ length s
-  pub after : rest ≡ drop (length s - length rest) s
-  pub decides : all_zero s ≡ all_zero rest
+-- k blocks that are all 0, and those that aren't, by the answer r. The bytes t are those after them, and may be some of theirs too.
+module _ (n k : ℕ) (s : Bytes) (q : List Bytes) (e : q ≡ first_chunks n k s) (r : Bool) (f : r ≡ all_zero (joined q)) where
+  both : (r && all_zero (drop (k * n) s)) ≡ all_zero s
+  both = rw (f, e) (chunks_zero n k s)
 
-pub all_left : (s : Bytes) → Left s s
-all_left s =
-    let e : length s - length s ≡ 0 = omega arith in
-    record { short = omega arith; after = rw e; decides = refl }
+  pub blocks_zero : (m : ℕ) (t : Bytes) → t ≡ drop m s → m ≤ k * n → r ≡ true → all_zero t ≡ all_zero s
+  blocks_zero m t g h z = ap all_zero g ∙ go (all_zero (drop m s)) refl
+    where
+      within : drop (k * n - m) (drop m s) ≡ drop (k * n) s
+      within =
+          let i : m + (k * n - m) ≡ k * n = omega arith in
+          rw (drop-drop (k * n - m) m s, i)
 
-pub less_left : (s rest : Bytes) (n : ℕ) → Left s rest → n ≤ length rest → all_zero (part 0 (n - 0) rest) ≡ true
-    → Left s (part n (length rest - n) rest)
-less_left s rest n l h z =
-    let e : part n (length rest - n) rest ≡ drop n rest = take_all (length rest - n) (drop n rest) (simp length-drop (omega arith)) in
-    let m : length (drop n rest) ≡ length rest - n = length-drop n rest in
-    let k : (length s - length rest) + n ≡ length s - (length rest - n) = omega (arith, l.short) in
-    record {
-      short = rw (e, m) (omega (arith, l.short));
-      after = rw (e, m, sym k) (ap (drop n) l.after ∙ drop-drop n (length s - length rest) s);
-      decides = l.decides ∙ zero_pass rest 0 n (omega arith) z ∙ sym (zero_last rest n);
-    }
+      go : (d : Bool) → all_zero (drop m s) ≡ d → all_zero (drop m s) ≡ all_zero s
+      go true y = y ∙ sym (rw within at (zero_drop (k * n - m) (drop m s) y)) ∙ (rw z at both)
+      go false y = y ∙ (rw (y, and-false) at (zero_cut m s))
 
--- the last m bytes, among which are those left, decide as well
-pub last_decides : (s rest : Bytes) (m : ℕ) → Left s rest → length rest ≤ m → m ≤ length s → all_zero (drop (length s - m) s) ≡ all_zero s
-last_decides s rest m l few all = go (all_zero (drop (length s - m) s)) refl
-  where
-    k : (length s - m) + (m - length rest) ≡ length s - length rest
-    k = omega (arith, few, all)
-
-    within : drop (m - length rest) (drop (length s - m) s) ≡ rest
-    within = rw (drop-drop (m - length rest) (length s - m) s, k) (sym l.after)
-
-    go : (b : Bool) → all_zero (drop (length s - m) s) ≡ b → b ≡ all_zero s
-    go true z = sym (l.decides ∙ rw within at (zero_drop (m - length rest) (drop (length s - m) s) z))
-    go false z =
-        let n = length s - m in
-        sym (ap all_zero (sym (take-append-drop n s)) ∙ zero_both (take n s) (drop n s) ∙ rw (z, and-false))
+  pub blocks_other : r ≡ false → r ≡ all_zero s
+  blocks_other z = z ∙ (rw z at both)

@@ -1,21 +1,11 @@
--- `zeros::zero_part` meets its contract. The invariant: what is left to look at decides the answer. Assumes nothing.
-use mathlib.Core.Path.{refl, sym, ◌∙◌}
+-- `zeros::zero_part` meets its contract: the blocks and the bytes after them decide the answer. Assumes nothing.
+use mathlib.Core.Path.{◌∙◌}
 use native.Mathlib.Omega.{arith}
-use Rattle.zeros.proofs.ZeroBytes.{zero_pass, zero_stop, zero_last}
+use Rattle.zeros.proofs.ZeroBytes.{blocks_zero, blocks_other}
 use Rattle.zeros.proofs.zero_part.Goals as goal
 
-pub loop-rest-init : goal.loop-rest-init
-loop-rest-init c = refl
+pub returns-then-zero_blocks : goal.returns-then-zero_blocks
+returns-then-zero_blocks c = c.zero_rest.ensures ∙ blocks_zero 512 _ _ _ c.as_chunks.ensures.front _ c.zero_blocks.ensures _ _ c.as_chunks.ensures.back (omega arith) c.if-zero_blocks.true
 
-pub returns-then-not-zero_block : goal.returns-then-not-zero_block
-returns-then-not-zero_block c = sym (c.loop-rest.invariant ∙ zero_stop c.loop-rest.rest.now 0 512 (sym c.zero_block.ensures ∙ c.if-not-zero_block.true))
-
-pub loop-rest-preserved : goal.loop-rest-preserved
-loop-rest-preserved c =
-    let rest = c.loop-rest.rest.now in
-    c.loop-rest.invariant
-    ∙ zero_pass rest 0 512 (omega arith) (sym c.zero_block.ensures ∙ c.if-not-zero_block.false)
-    ∙ sym (zero_last rest 512)
-
-pub returns : goal.returns
-returns c = c.zero_rest.ensures ∙ sym c.loop-rest.invariant
+pub returns-else-zero_blocks : goal.returns-else-zero_blocks
+returns-else-zero_blocks c = blocks_other 512 _ _ _ c.as_chunks.ensures.front _ c.zero_blocks.ensures c.if-zero_blocks.false

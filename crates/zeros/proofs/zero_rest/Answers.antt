@@ -1,24 +1,11 @@
--- `zeros::zero_rest` meets its contract. The invariant: what is left to look at decides the answer. Assumes nothing.
-use mathlib.Core.Path.{sym, ◌∙◌}
-use Prim.Native.Nat.{◌-◌}
+-- `zeros::zero_rest` meets its contract: the blocks and the bytes after them decide the answer. Assumes nothing.
+use mathlib.Core.Path.{◌∙◌}
 use native.Mathlib.Omega.{arith}
-use lib.ListN.{length}
-use Rattle.zeros.proofs.ZeroBytes.{all_left, less_left, last_decides, zero_stop, zero_last}
+use Rattle.zeros.proofs.ZeroBytes.{blocks_zero, blocks_other}
 use Rattle.zeros.proofs.zero_rest.Goals as goal
 
-pub loop-rest-init : goal.loop-rest-init
-loop-rest-init c = all_left _
+pub returns-then-zero_blocks : goal.returns-then-zero_blocks
+returns-then-zero_blocks c = c.zero_block-then-zero_blocks.ensures ∙ blocks_zero 64 _ _ _ c.as_chunks.ensures.front _ c.zero_blocks.ensures _ _ c.in-Some.ensures.cases.1.same (omega arith) c.if-zero_blocks.true
 
-pub returns-then-not-zero_block : goal.returns-then-not-zero_block
-returns-then-not-zero_block c = sym (c.loop-rest.invariant.decides ∙ zero_stop c.loop-rest.rest.now 0 64 (sym c.zero_block-in-loop-rest.ensures ∙ c.if-not-zero_block.true))
-
-pub loop-rest-preserved : goal.loop-rest-preserved
-loop-rest-preserved c = less_left _ c.loop-rest.rest.now 64 c.loop-rest.invariant c.loop-rest-test.true
-    (sym c.zero_block-in-loop-rest.ensures ∙ c.if-not-zero_block.false)
-
-pub returns : goal.returns
-returns c =
-    let s = c.args.s.now in
-    c.zero_block-2.ensures
-    ∙ zero_last s (length s - 64)
-    ∙ last_decides s c.loop-rest.rest.now 64 c.loop-rest.invariant (omega (arith, c.loop-rest-test.false)) (omega (arith, c.if-s-lt64.false))
+pub returns-else-zero_blocks : goal.returns-else-zero_blocks
+returns-else-zero_blocks c = blocks_other 64 _ _ _ c.as_chunks.ensures.front _ c.zero_blocks.ensures c.if-zero_blocks.false
