@@ -7,9 +7,7 @@ use native.Mathlib.Nat.{zero-add}
 use lib.ListN.{length, take, drop, length-append, length-drop}
 use lib.Seq.{take_at, length-take-le, drop-drop, drop_at}
 use borrow.Rule.Slice.PartMut.{put_mid}
-use Rattle.profile.specs.Bytes.{Bytes, part, over}
-use Rattle.profile.proofs.Strings.{length_part}
-use Rattle.octets.proofs.Parts.{part_all}
+use Rattle.profile.specs.Bytes.{Bytes, over}
 use Rattle.buffers.specs.Over.{over_at}
 
 -- from the start it is a frame at the start of a buffer
@@ -45,18 +43,7 @@ module _ (xs d : Bytes) (at : ℕ) (h : at + length xs ≤ length d) where
   unfolding over_at
   over_after = drop_at (take at d ++ xs) (drop (at + length xs) d) (at + length xs) (head_length xs d at (omega arith))
 
--- a part of k bytes that was lent is back as y
-pub over_lent : (d y : Bytes) (at k : ℕ) → length y ≡ k → put_mid at k d y ≡ over_at at y d
+-- a part of k bytes that was lent is back as a copy of s
+pub over_copied : (d s y : Bytes) (at k : ℕ) → k ≡ length s → y ≡ s → put_mid at k d y ≡ over_at at s d
 unfolding over_at
-over_lent d y at k e = rw (← e, drop-drop) (sym (append_assoc (take at d) y (drop (at + length y) d)))
-
--- as it is when a part of s was copied into it
-pub over_copied : (d s y : Bytes) (at from n k : ℕ) → at + n ≤ length d → from + n ≤ length s → k ≡ n → y ≡ part from (length (part at k d)) s → put_mid at k d y ≡ over_at at (part from n s) d
-over_copied d s y at from n k h g e f =
-    let l : length (part at k d) ≡ n = length_part at k d (omega arith) ∙ e in
-    let z : y ≡ part from n s = f ∙ ap (λ (m : ℕ). part from m s) l in
-    over_lent d y at k (ap length z ∙ length_part from n s g ∙ sym e) ∙ ap (λ (x : Bytes). over_at at x d) z
-
--- all of s as a part of it
-pub whole_over : (at : ℕ) (s d d' : Bytes) → d' ≡ over_at at (part 0 (length s) s) d → d' ≡ over_at at s d
-whole_over at s d d' e = rw (part_all s) at e
+over_copied d s y at k l e = rw (e, l, drop-drop) (sym (append_assoc (take at d) s (drop (at + length s) d)))

@@ -2,24 +2,26 @@
 #![tactic(auto)]
 
 ghost use Rattle.std.specs.Prelude.{◌≡◌, ◌∷◌, ◌+◌, ◌≤◌, ◌<◌, length};
-ghost use Rattle.profile.specs.Bytes.{part, word_bytes};
+ghost use Rattle.profile.specs.Bytes.{word_bytes};
 ghost use Rattle.buffers.specs.Over.{over_at};
 
-// A part of a slot or a frame goes into a buffer at an offset; the bytes before and after it stay.
-pub fn put_part(out: &mut [u8], at: usize, s: &[u8], from: usize, n: usize)
-    requires { (at + n ≤ length out.old) × (from + n ≤ length s.now) }
-    ensures { out.new ≡ over_at at (part from n s.now) out.old }
+// Bytes copied into a part that is lent. The loop becomes a memcpy, since the two share no byte; `copy_from_slice` becomes a memmove, which whoever
+// links the archive need not have.
+fn copy(d: &mut [u8], s: &[u8])
+    requires { length d.old ≡ length s.now }
+    ensures { d.new ≡ s.now }
 {
-    let e = at + n;
-    octets::arrays::copy_from(&mut out[at..e], s, from);
+    for i in 0..d.len() {
+        d[i] = s[i];
+    }
 }
 
-// Whole byte strings go into a buffer at an offset, as heads, handles and keys do.
+// Whole byte strings go into a buffer at an offset, as heads, handles and keys do; the bytes before and after them stay.
 pub fn put_bytes(out: &mut [u8], at: usize, s: &[u8])
     requires { at + length s.now ≤ length out.old }
     ensures { out.new ≡ over_at at s.now out.old }
 {
-    put_part(out, at, s, 0, s.len());
+    copy(&mut out[at..at + s.len()], s);
 }
 
 // A number of 16 bits goes into a buffer at an offset.
@@ -37,7 +39,6 @@ pub fn frame_start(kind: u8, second: u8, n: u16) -> [u8; 4]
     ensures { result ≡ (32 + kind) ∷ second ∷ word_bytes n }
 {
     let first = bits::fields::frame_head(kind);
-    let high = words::high_of(n);
-    let low = words::low_of(n);
+    let [high, low] = words::bytes_of(n);
     [first, second, high, low]
 }

@@ -1,8 +1,7 @@
--- `buffers::put_bytes` meets its contract: all of s is a part of it. Assumes nothing.
-use Rattle.buffers.proofs.Overlays.{whole_over}
+-- `buffers::put_bytes` meets its contract: the part that was lent is back. Assumes nothing.
+use native.Mathlib.Omega.{arith}
+use Rattle.buffers.proofs.Overlays.{over_copied}
 use Rattle.buffers.proofs.put_bytes.Goals as goal
 
 pub returns : goal.returns
-returns c =
-    let a = c.args in
-    whole_over a.at a.s.now a.out.now _ c.put_part.ensures
+returns c = over_copied c.args.out.now c.args.s.now _ c.args.at _ (omega arith) c.copy.ensures
