@@ -1,8 +1,10 @@
 -- What a slot unpacks to, by the number of its place. Assumes nothing.
 use Prim.Native.Nat.{ℕ, zero, suc}
 use mathlib.Core.Path.{◌≡◌, refl, sym, ap, ◌∙◌}
-use mathlib.Core.Bool.{Bool, false}
+use mathlib.Core.Bool.{true, false, not}
 use native.Mathlib.Omega.{arith}
+use borrow.Author.Tests.{ne_eqb}
+use lib.Dec.{eqb}
 use lib.ListN.{length}
 use Rattle.profile.specs.Bytes.{Bytes, part, word, same}
 use Rattle.profile.specs.Slot.{Entry, reserved, enabled, disabled, empty, taken, named}
@@ -54,8 +56,10 @@ module _ (s : Bytes) where
   pub named_taken : (h : Bytes) → (place_of s ≡ 0 → ⊥) → named h (unpack s) ≡ same h (part 1 10 s)
   named_taken h e = ap (named h) (unpack_taken e).1
 
-  pub named_same : (h : Bytes) (b : Bool) → length h ≡ 10 → (place_of s ≡ 0 → ⊥) → b ≡ same h (part 1 (length h) s) → b ≡ named h (unpack s)
-  named_same h b l p e = (rw l at e) ∙ sym (named_taken h p)
+  -- the handle's bytes are a handle where the slot is not empty
+  pub named_same : (h : Bytes) → length h ≡ 10 → same h (part 1 (length h) s) ≡ true → (p : ℕ) → p ≡ place_of s → not (eqb p 0) ≡ named h (unpack s)
+  named_same h l e zero at = sym (named_empty h (sym at))
+  named_same h l e (suc p) at = rw (ne_eqb (suc p) 0 (λ z. omega (arith, z))) (sym (named_taken h (λ z. omega (arith, z, at)) ∙ (rw l at e)))
 
   -- other bytes are another handle, or none
   pub named_differs : (h : Bytes) → length h ≡ 10 → same h (part 1 (length h) s) ≡ false → named h (unpack s) ≡ false

@@ -10,7 +10,7 @@ use lib.ListN.{length, get_or, take, drop, length-drop}
 use lib.Seq.{take_all, take-suc, drop-drop, get_or-drop}
 use Rattle.profile.specs.Bytes.{Bytes, byte, part, word, all_zero}
 use Rattle.profile.specs.Slot.{count_holds}
-use Rattle.profile.specs.Table.{place_of, hash_count_of, kept_of, spare_of, well_placed, well_count, well_rest, well_slot}
+use Rattle.profile.specs.Table.{place_of, hash_count_of, kept_of, well_placed, well_count, well_rest, well_slot}
 use Rattle.profile.specs.Turning.{well_before}
 use Rattle.profile.proofs.Logic.{both, and_parts, from_1_to_says}
 use Rattle.profile.proofs.Strings.{zero_byte, zero_drop}
@@ -18,6 +18,8 @@ use Rattle.profile.proofs.Unpack.{well_slot_lem, well_reserved_lem}
 use Rattle.zeros.proofs.ZeroBytes.{zero_both}
 use Rattle.slots.specs.declared.place.Place.{Place}
 use Rattle.slots.specs.declared.place.Place.TheVariants.{Empty, Reserved, Enabled, Disabled}
+use Rattle.slots.specs.declared.well.Rules.{Rules}
+use Rattle.slots.specs.declared.well.Rules.TheVariants.{Today, Before}
 use Rattle.slots.specs.Places.{place_number}
 use Rattle.slots.specs.Rules.{low_by, well_by}
 use Rattle.slots.specs.Taken.{payload_in, awaits_well}
@@ -33,14 +35,6 @@ zero_take (suc n) (x ∷ s) z =
 
 module _ (s : Bytes) where
   -- ---- by place
-  pub no_count_lem : (kept : ℕ) → kept ≡ kept_of s → place_of s < 2 → eqb kept 0 ≡ well_count s
-  no_count_lem kept e h = rw e (go (place_of s) refl)
-    where
-      go : (p : ℕ) → place_of s ≡ p → eqb (kept_of s) 0 ≡ well_count s
-      go zero at = rw at
-      go (suc zero) at = rw at
-      go (suc (suc n)) at = absurd (omega (arith, h, at))
-
   pub some_count : 2 ≤ place_of s → count_holds (kept_of s) (word 27 s) ≡ well_count s
   some_count h = go (place_of s) refl
     where
@@ -49,17 +43,10 @@ module _ (s : Bytes) where
       go (suc zero) at = absurd (omega (arith, h, at))
       go (suc (suc n)) at = rw at
 
-  pub well_parts : (old low rest : Bool) → low ≡ low_by old s → rest ≡ well_rest s → (low && rest) ≡ well_by old s
+  pub well_parts : (r : Rules) (low rest : Bool) → low ≡ low_by r s → rest ≡ well_rest s → (low && rest) ≡ well_by r s
   unfolding well_slot well_before
-  well_parts true low rest a b = rw (a, b)
-  well_parts false low rest a b = rw (a, b)
-
-  -- the two lowest bits, by either rules
-  pub low_before : (old : Bool) (kept spare : ℕ) → old ≡ true → kept ≡ kept_of s → spare ≡ spare_of s → (eqb kept 0 && eqb spare 0) ≡ low_by old s
-  low_before old kept spare p a b = rw (p, a, b)
-
-  pub low_today : (old : Bool) (spare : ℕ) (counted : Bool) → old ≡ false → spare ≡ spare_of s → counted ≡ well_count s → (eqb spare 0 && counted) ≡ low_by old s
-  low_today old spare counted p a b = rw (p, a, b)
+  well_parts Today low rest a b = rw (a, b)
+  well_parts Before low rest a b = rw (a, b)
 
   pub empty_slot : place_of s ≡ 0 → well_rest s ≡ all_zero s
   unfolding well_rest

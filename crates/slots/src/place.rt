@@ -3,7 +3,7 @@ ghost use Rattle.std.specs.Prelude.{◌≡◌, ◌<◌, length};
 ghost use Rattle.profile.specs.Table.{place_of};
 ghost use Rattle.slots.specs.Places.{place_number};
 
-#[derive(Clone, Copy)]
+#[derive(Clone, Copy, PartialEq, Eq)]
 pub enum Place {
     Empty,
     Reserved,
@@ -11,7 +11,17 @@ pub enum Place {
     Disabled,
 }
 
-// The two bits of the place have four values, so every slot has one of the four places.
+impl Place {
+    // Its number, which has room in the two bits of a slot.
+    pub fn number(self) -> u8
+        ensures { (result ≡ place_number self) × (result < 4) }
+    {
+        self as u8 // its discriminant
+    }
+}
+
+// The two bits of the place have four values, so every slot has one of the four places. One byte is enough to tell it, so the rest of the slot
+// is not asked for.
 pub fn place_of(s: &[u8]) -> Place
     requires { 0 < length s.now }
     ensures { place_number result ≡ place_of s.now }
