@@ -1,5 +1,6 @@
 -- the table, slot by slot
 pub mod SlotParts
+pub mod Chains
 pub mod Turns
 pub mod Marking
 pub mod WellTables

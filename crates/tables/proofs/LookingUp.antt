@@ -1,63 +1,58 @@
 -- The first slot under a handle, and what looking the handle up answers. Assumes nothing.
-use Prim.Native.Nat.{ℕ, zero, suc, ◌+◌, ◌*◌, ◌≤◌, ◌<◌}
+use Prim.Native.Nat.{ℕ, zero, suc, ◌+◌, ◌≤◌, ◌<◌}
 use mathlib.Core.Path.{◌≡◌, refl, sym, ap, ◌∙◌}
-use mathlib.Core.List.{List, [], ◌∷◌}
+use mathlib.Core.List.{List, [], ◌∷◌, map}
 use mathlib.Core.Option.{some}
-use mathlib.Core.Bool.{Bool, true, false, true≢false}
+use mathlib.Core.Bool.{Bool, true, false}
 use native.Mathlib.Omega.{arith}
-use native.Mathlib.Nat.{zero-add, not-suc-le-zero, le_of_suc-le-suc}
-use borrow.Author.Tests.{lt-ltb, le-ltb}
+use native.Mathlib.Nat.{not-suc-le-zero}
+use borrow.Author.Tests.{ltb-true, ltb-false}
 use lib.Dec.{ltb}
-use lib.ListN.{length, get_or, get_elem?, drop, length-drop}
-use Rattle.profile.specs.Bytes.{Bytes, part, same}
-use Rattle.profile.specs.Slot.{Entry, Slot, empty, taken, named, in_use}
-use Rattle.profile.specs.Table.{place_of, unpack, slot_count, slots_of}
+use lib.ListN.{length, get_or, get_elem?, get_or-map}
+use Rattle.std.specs.Prelude.{Option, Some, None, cond}
+use Rattle.std.specs.List.{position_or_len, position}
+use Rattle.profile.specs.Bytes.{Bytes, same}
+use Rattle.profile.specs.Slot.{Entry, Slot, empty, taken, named}
+use Rattle.profile.specs.Table.{place_of, unpack, slot_bytes, slots_of}
 use Rattle.profile.specs.Agent.{absent, one, next, find}
-use Rattle.profile.proofs.Logic.{or_parts}
 use Rattle.profile.proofs.FirstEmpty.{not_there}
 use Rattle.profile.proofs.Laws.{found_is}
 use Rattle.slots.specs.declared.place.Place.{Place}
-use Rattle.tables.specs.declared.lookup.Lookup.TheVariants.{Absent, At}
 use Rattle.slots.specs.Places.{place_number, place_of_entry}
-use Rattle.tables.specs.LookUp.{found_at, first_under}
 use Rattle.slots.proofs.Unpacking.{place_of_entry_lem}
-use Rattle.tables.proofs.SlotParts.{length_slots, unpacked_at}
+use Rattle.tables.specs.LookUp.{found_at}
 
--- ---- in use: the first slot under the handle is one of the slots
-pub first_none : (h : Bytes) (t : List Slot) → in_use h t ≡ false → first_under h t ≡ length t
-unfolding first_under
-first_none h [] e = refl
-first_none h (s ∷ t) e =
-    let p = or_parts (named h s) (in_use h t) e in
-    rw p.0 (ap suc (first_none h t p.1))
+one-add : (n : ℕ) → 1 + n ≡ suc n
+one-add n = omega arith
 
-pub first_some : (h : Bytes) (t : List Slot) → in_use h t ≡ true → first_under h t < length t
-unfolding first_under
-first_some h [] e = absurd (true≢false (sym e))
-first_some h (s ∷ t) e = go (named h s) refl (first_some h t)
-  where
-    go : (b : Bool) → named h s ≡ b → (in_use h t ≡ true → first_under h t < length t) → first_under h (s ∷ t) < length (s ∷ t)
-    go true q ih = rw q (omega arith)
-    go false q ih = let below : first_under h t < length t = ih (rw q at e) in rw q (omega arith)
+some_none : {n : ℕ} → Some n ≡ None → ⊥
+some_none q = let z : ◌≡◌ {A = ℕ} 0 1 = cc in omega arith
 
-pub in_use_below : (h : Bytes) (t : List Slot) (from n : ℕ) → from + length t ≡ n → ltb (from + first_under h t) n ≡ in_use h t
-in_use_below h t from n e = go (in_use h t) refl
-  where
-    go : (b : Bool) → in_use h t ≡ b → ltb (from + first_under h t) n ≡ b
-    go true q = lt-ltb (from + first_under h t) n (omega (arith, first_some h t q))
-    go false q = le-ltb (from + first_under h t) n (omega (arith, first_none h t q))
+some_is : {n i : ℕ} → Some n ≡ Some i → n ≡ i
+some_is q = cc
 
--- ---- the first slot under the handle is the one found
-pub first_found : (h : Bytes) (t : List Slot) → first_under h t < length t → (e : Entry) × (find h t ≡ one (first_under h t) e)
-unfolding first_under
+-- ---- the first slot under the handle is the one found; where none is, nothing is found
+abbrev first : Bytes → List Slot → ℕ
+first h t = position_or_len (named h) t
+
+first_found : (h : Bytes) (t : List Slot) → first h t < length t → (e : Entry) × (find h t ≡ one (first h t) e)
 first_found h [] l = absurd (not-suc-le-zero l)
-first_found h (empty ∷ t) l = let r = first_found h t (omega arith) in (r.0, ap next r.1)
+first_found h (empty ∷ t) l = let r = first_found h t (omega (arith, l)) in rw (one-add (first h t)) (r.0, ap next r.1)
 first_found h (taken k e ∷ t) l = go (same h k) refl (first_found h t)
   where
-    go : (b : Bool) → same h k ≡ b → (first_under h t < length t → (e : Entry) × (find h t ≡ one (first_under h t) e))
-        → (x : Entry) × (find h (taken k e ∷ t) ≡ one (first_under h (taken k e ∷ t)) x)
+    go : (b : Bool) → same h k ≡ b → (first h t < length t → (e : Entry) × (find h t ≡ one (first h t) e))
+        → (x : Entry) × (find h (taken k e ∷ t) ≡ one (first h (taken k e ∷ t)) x)
     go true q ih = rw q (e, refl)
-    go false q ih = let r = ih (le_of_suc-le-suc (rw q at l)) in rw q (r.0, ap next r.1)
+    go false q ih = let r = ih (omega (arith, rw q at l)) in rw (q, one-add (first h t)) (r.0, ap next r.1)
+
+none_found : (h : Bytes) (t : List Slot) → length t ≤ first h t → find h t ≡ absent
+none_found h [] l = refl
+none_found h (empty ∷ t) l = ap next (none_found h t (omega (arith, l)))
+none_found h (taken k e ∷ t) l = go (same h k) refl (none_found h t)
+  where
+    go : (b : Bool) → same h k ≡ b → (length t ≤ first h t → find h t ≡ absent) → find h (taken k e ∷ t) ≡ absent
+    go true q ih = absurd (omega (arith, rw q at l))
+    go false q ih = rw q (ap next (ih (omega (arith, rw q at l))))
 
 -- a slot that is found is one of the slots, and is under the handle
 pub record Stands (h : Bytes) (t : List Slot) (i : ℕ) (e : Entry) (d : Slot) : Type 0 where
@@ -72,41 +67,45 @@ stands_at h (s ∷ t) (suc i) e d p = let r = stands_at h t i e d p in record { 
 pub found_stands : (h : Bytes) (t : List Slot) (i : ℕ) (e : Entry) (d : Slot) → find h t ≡ one i e → Stands h t i e d
 found_stands h t i e d q = stands_at h t i e d (rw q at (found_is h t))
 
-found_none : (h : Bytes) (t : List Slot) → in_use h t ≡ false → find h t ≡ absent
-found_none h [] e = refl
-found_none h (empty ∷ t) e = ap next (found_none h t e)
-found_none h (taken k x ∷ t) e =
-    let p = or_parts (same h k) (in_use h t) e in
-    rw p.0 (ap next (found_none h t p.1))
-
 -- ---- the two answers
-module _ (h : Bytes) (t : List Slot) (i : ℕ) (first : i ≡ first_under h t) where
-  looks_absent : length t ≤ i → found_at (find h t) ≡ Absent
+no_place : (n m : ℕ) → cond (ltb n m) (Some n) None ≡ None → m ≤ n
+no_place n m e = go (ltb n m) refl
+  where
+    go : (b : Bool) → ltb n m ≡ b → m ≤ n
+    go true q = absurd (some_none (rw q at e))
+    go false q = ltb-false n m q
+
+one_place : (n m i : ℕ) → cond (ltb n m) (Some n) None ≡ Some i → (n ≡ i) × (n < m)
+one_place n m i e = go (ltb n m) refl
+  where
+    go : (b : Bool) → ltb n m ≡ b → (n ≡ i) × (n < m)
+    go true q = (some_is (rw q at e), ltb-true n m q)
+    go false q = absurd (some_none (sym (rw q at e)))
+
+module _ (h : Bytes) (t : List Slot) where
+  pub answers_absent : position (named h) t ≡ None → found_at (find h t) ≡ None
   unfolding found_at
-  looks_absent l = go (in_use h t) refl
-    where
-      go : (b : Bool) → in_use h t ≡ b → found_at (find h t) ≡ Absent
-      go true q = absurd (omega (arith, first_some h t q))
-      go false q = rw (found_none h t q)
+  answers_absent e = rw (none_found h t (no_place _ _ e))
 
-  looks_at : i < length t → (d : Slot) (p : Place) → ((e : Entry) → get_or t i d ≡ taken h e → p ≡ place_of_entry e) → found_at (find h t) ≡ At i p
+  pub answers_at : (i : ℕ) → position (named h) t ≡ Some i → (d : Slot) (p : Place) → ((e : Entry) → get_or t i d ≡ taken h e → p ≡ place_of_entry e)
+      → found_at (find h t) ≡ Some (record { at = i; place = p })
   unfolding found_at
-  looks_at below d p place =
-      let here : (e : Entry) × (find h t ≡ one i e) = rw first (first_found h t (rw first at below)) in
-      rw here.1 (ap (At i) (sym (place here.0 (found_stands h t i here.0 d here.1).there)))
+  answers_at i e d p place =
+      let at : (first h t ≡ i) × (first h t < length t) = one_place _ _ i e in
+      let here : (e : Entry) × (find h t ≡ one i e) = rw at.0 at (first_found h t at.1) in
+      rw here.1 (ap (λ (q : Place). Some (record { at = i; place = q })) (sym (place here.0 (found_stands h t i here.0 d here.1).there)))
 
--- ---- over a table's bytes
-module _ (t h : Bytes) where
-  pub in_use_from : (from i : ℕ) → from ≤ slot_count t → i ≡ from + first_under h (drop from (slots_of t)) → ltb i (slot_count t) ≡ in_use h (drop from (slots_of t))
-  in_use_from from i l e =
-      rw e
-      (in_use_below h (drop from (slots_of t)) from (slot_count t) (rw (length-drop from (slots_of t), length_slots t) (omega arith)))
+-- ---- over a table's bytes, cut into its slots
+module _ (t h : Bytes) (ss : List Bytes) (cut : ss ≡ slot_bytes t) (r : Option ℕ) (first : r ≡ position (named h) (map unpack ss)) where
+  there : r ≡ position (named h) (slots_of t)
+  unfolding slots_of
+  there = rw (← cut) first
 
-  module _ (i : ℕ) (first : i ≡ 0 + first_under h (slots_of t)) where
-    pub answers_absent : slot_count t ≤ i → found_at (find h (slots_of t)) ≡ Absent
-    answers_absent l = looks_absent h (slots_of t) i (first ∙ zero-add _) (rw (length_slots t) l)
+  pub looks_absent : r ≡ None → None ≡ found_at (find h (slots_of t))
+  looks_absent e = sym (answers_absent h (slots_of t) (sym there ∙ e))
 
-    pub answers_at : i < slot_count t → (s : Bytes) (p : Place) → s ≡ part (4288 * i) 4288 t → place_number p ≡ place_of s → found_at (find h (slots_of t)) ≡ At i p
-    answers_at below s p e n =
-        looks_at h (slots_of t) i (first ∙ zero-add _) (rw (length_slots t) below) (unpack []) p
-        (λ x there. place_of_entry_lem s p h x n (rw e (sym (unpacked_at t i below) ∙ there)))
+  pub looks_at : (i : ℕ) → r ≡ Some i → (p : Place) → place_number p ≡ place_of (get_or ss i []) → Some (record { at = i; place = p }) ≡ found_at (find h (slots_of t))
+  unfolding slots_of
+  looks_at i e p n =
+      sym (answers_at h (slots_of t) i (sym there ∙ e) (unpack []) p
+      (λ x named. place_of_entry_lem (get_or ss i []) p h x n (sym (get_or-map unpack ss i []) ∙ rw cut named)))

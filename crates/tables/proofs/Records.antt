@@ -5,14 +5,14 @@ use mathlib.Core.List.{List, []}
 use mathlib.Core.Bool.{true}
 use native.Mathlib.Omega.{arith}
 use lib.ListN.{length}
+use Rattle.std.specs.Prelude.{Option, Some, None}
 use Rattle.profile.specs.Bytes.{Bytes, part, word}
 use Rattle.profile.specs.Slot.{Entry, reserved, enabled, disabled, Slot, taken}
 use Rattle.profile.specs.Table.{place_of, hash_count_of, right_of, unpack, well_slot, well_table, slot_count, slots_of}
 use Rattle.profile.specs.Agent.{Found, absent, one, find}
 use Rattle.slots.specs.declared.place.Place.{Place}
 use Rattle.slots.specs.declared.place.Place.TheVariants.{Empty, Reserved, Enabled, Disabled}
-use Rattle.tables.specs.declared.lookup.Lookup.{Lookup}
-use Rattle.tables.specs.declared.lookup.Lookup.TheVariants.{Absent, At}
+use Rattle.tables.specs.declared.lookup.Record.{Record}
 use Rattle.slots.specs.Places.{place_number, place_of_entry}
 use Rattle.tables.specs.LookUp.{found_at}
 use Rattle.slots.proofs.Unpacking.{empty_taken, same_entry, unpack_empty, unpack_reserved, unpack_enabled, unpack_disabled}
@@ -27,9 +27,9 @@ pub record Standing (h : Bytes) (u : List Slot) (i : ℕ) (p : Place) : Type 0 w
   pub placed : place_of_entry entry ≡ p
   pub found : find h u ≡ one i entry
 
-abbrev Means : Bytes → List Slot → Lookup → Type 0
-Means h u Absent = find h u ≡ absent
-Means h u (At i p) = Standing h u i p
+abbrev Means : Bytes → List Slot → Option Record → Type 0
+Means h u None = find h u ≡ absent
+Means h u (Some r) = Standing h u r.at r.place
 
 module _ (h : Bytes) (u : List Slot) where
   answer_means : Means h u (found_at (find h u))
@@ -40,11 +40,11 @@ module _ (h : Bytes) (u : List Slot) where
       go absent e = e
       go (one i x) e = record { entry = x; placed = refl; found = e }
 
-  pub absent_found : found_at (find h u) ≡ Absent → find h u ≡ absent
+  pub absent_found : found_at (find h u) ≡ None → find h u ≡ absent
   absent_found e = rw e at answer_means
 
-  pub at_stands : (i : ℕ) (p : Place) → found_at (find h u) ≡ At i p → Standing h u i p
-  at_stands i p e = rw e at answer_means
+  pub at_stands : (r : Record) → found_at (find h u) ≡ Some r → Standing h u r.at r.place
+  at_stands r e = rw e at answer_means
 
 -- ---- on a table's bytes: the record found is that of slot i
 -- what stands in a slot of that place; no answer has the place empty
@@ -79,11 +79,11 @@ pub record RecordFits (s : Bytes) : Type 0 where
   pub long : (1 ≤ word 29 s) × (word 29 s ≤ 4096)
 
 module _ (t h : Bytes) (i : ℕ) where
-  pub record_at : (p : Place) → found_at (find h (slots_of t)) ≡ At i p → RecordAt t h i (entry_of p (part (4288 * i) 4288 t))
+  pub record_at : (p : Place) → found_at (find h (slots_of t)) ≡ Some (record { at = i; place = p }) → RecordAt t h i (entry_of p (part (4288 * i) 4288 t))
   record_at p l = rw (← known) (record { below = below; unpacked = unpacked; found = s.found })
     where
       s : Standing h (slots_of t) i p
-      s = at_stands h (slots_of t) i p l
+      s = at_stands h (slots_of t) (record { at = i; place = p }) l
 
       below : i < slot_count t
       below = rw (length_slots t) at (found_stands h (slots_of t) i s.entry (unpack []) s.found).below
@@ -105,11 +105,11 @@ module _ (t h : Bytes) (i : ℕ) where
       taken_slot z = empty_taken h e (sym (unpack_empty (part (4288 * i) 4288 t) z) ∙ r.unpacked)
 
   -- every slot but an empty one has a handle
-  pub none_empty : found_at (find h (slots_of t)) ≡ At i Empty → ⊥
+  pub none_empty : found_at (find h (slots_of t)) ≡ Some (record { at = i; place = Empty }) → ⊥
   none_empty l = go s.entry s.placed
     where
       s : Standing h (slots_of t) i Empty
-      s = at_stands h (slots_of t) i Empty l
+      s = at_stands h (slots_of t) (record { at = i; place = Empty }) l
 
       go : (e : Entry) → place_of_entry e ≡ Empty → ⊥
       go (reserved n) q = omega (arith, ap place_number q)

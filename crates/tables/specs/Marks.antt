@@ -2,7 +2,6 @@
 use Rattle.std.specs.Prelude.{ℕ, suc, ◌≤◌, ◌<◌, ◌≡◌, List, [], ◌∷◌, map, eqb, length, get_or, take, replicate, if◌then◌else◌}
 use Rattle.std.specs.Int.Bits.{bit_xor}
 use Rattle.profile.specs.Bytes.{Bytes, part}
-use Rattle.profile.specs.Table.{slot_count, slot_bytes}
 
 -- the mark of a handle, and that of a slot's bytes: equal handles have equal marks
 unfoldable pub mark_of : Bytes → ℕ
@@ -16,8 +15,8 @@ unfoldable pub times_of : ℕ → List ℕ → ℕ
 times_of x [] = 0
 times_of x (y ∷ ys) = if eqb y x then suc (times_of x ys) else times_of x ys
 
--- sixteen numbers: of a table with no more slots than that, the marks of its slots stand first; of one with more, all are 0
-pub record Marked (t : Bytes) (m : List ℕ) : Type 0 where
+-- sixteen numbers: of no more slots than that, their marks stand first; of more, all are 0
+pub record Marked (ss : List Bytes) (m : List ℕ) : Type 0 where
   pub sixteen : length m ≡ 16
-  pub marks : slot_count t ≤ 16 → take (slot_count t) m ≡ map mark_in (slot_bytes t)
-  pub more : 16 < slot_count t → m ≡ replicate 16 0
+  pub marks : length ss ≤ 16 → take (length ss) m ≡ map mark_in ss
+  pub more : 16 < length ss → m ≡ replicate 16 0

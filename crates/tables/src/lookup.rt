@@ -4,23 +4,24 @@ ghost use Rattle.profile.specs.Table.{slots_of};
 ghost use Rattle.profile.specs.Agent.{find};
 ghost use Rattle.tables.specs.LookUp.{found_at};
 
-use profile::sizes::{HANDLE_BYTES, SLOT_BYTES};
-use slots::place::Place;
+use profile::sizes::HANDLE_BYTES;
+use slots::place::{Place, place_of};
 
-// In no slot; or in one, with its number and the place of its record.
+// A record, by the number of its slot and its place.
 #[derive(Clone, Copy)]
-pub enum Lookup {
-    Absent,
-    At(usize, Place),
+pub struct Record {
+    pub at: usize,
+    pub place: Place,
 }
 
 // The record under the request's handle, in the first slot that has it: a well-formed table has no second one (PROFILE 2.5).
-pub fn look_up(t: &[u8], h: [u8; HANDLE_BYTES]) -> Lookup
+pub fn look_up(t: &[u8], h: [u8; HANDLE_BYTES]) -> Option<Record>
     ensures { result ≡ found_at (find h (slots_of t.now)) }
 {
-    let i = crate::handle::first_under(t, &h, 0);
-    if i >= t.len() / SLOT_BYTES {
-        return Lookup::Absent;
-    }
-    Lookup::At(i, slots::place::place_of(crate::part::slot_at(t, i)))
+    let slots = crate::part::slots_in(t);
+    let at = crate::handle::first_under(slots, &h)?;
+    Some(Record {
+        at,
+        place: place_of(&slots[at]),
+    })
 }

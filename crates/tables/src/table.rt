@@ -1,76 +1,59 @@
 // When a table of slots is well formed (PROFILE 2.5).
-ghost use Rattle.std.specs.Prelude.{◌≡◌, ◌<◌, drop};
+ghost use Rattle.std.specs.Prelude.{◌≡◌, ◌<◌, length, drop, map};
 ghost use Rattle.profile.specs.Bytes.{all};
 ghost use Rattle.profile.specs.Slot.{distinct};
-ghost use Rattle.profile.specs.Table.{well_table, slot_count, slot_bytes, slots_of};
+ghost use Rattle.profile.specs.Table.{unpack, well_table};
 ghost use Rattle.slots.specs.Rules.{well_by};
 ghost use Rattle.tables.specs.Again.{again};
 ghost use Rattle.tables.specs.Judged.{table_by};
 ghost use Rattle.tables.specs.Marks.{Marked};
 
-use crate::part::slot_at;
-use profile::sizes::SLOT_BYTES;
+use crate::handle::used_in;
+use crate::marks::{MARKS, mark_of, marks_of, stands_once};
+use crate::part::slots_in;
 use profile::slot::{HANDLE_AT, KEY_AT};
+use slots::Slot;
+use slots::place::{Place, place_of};
+use slots::well::{Rules, well_slot};
 
-// Each slot is well formed: by the rules of today, or by those from before counts had their bit.
-fn all_well(t: &[u8], old: bool) -> bool
-    ensures { result ≡ all (well_by old) (slot_bytes t.now) }
+// Each slot is well formed, by either rules.
+fn all_well(slots: &[Slot], rules: Rules) -> bool
+    ensures { result ≡ all (well_by rules) slots.now }
 {
-    let n = t.len() / SLOT_BYTES;
-    let mut i = 0;
-    while i < n {
-        if !slots::well::well_slot(slot_at(t, i), old) {
-            return false;
-        }
-        i += 1;
-    }
-    true
+    slots.iter().all(|s| well_slot(s, rules))
 }
 
 // Whether a later slot has the handle of slot i too. Where its mark stands once among all marks, none has; else it is looked for.
-fn stands_again(t: &[u8], marks: &[u8], i: usize) -> bool
-    requires { (i < slot_count t.now) × Marked t.now marks.now }
-    ensures { result ≡ again (drop i (slots_of t.now)) }
+fn stands_again(slots: &[Slot], marks: &[u8; MARKS], i: usize) -> bool
+    requires { (i < length slots.now) × Marked slots.now marks.now }
+    ensures { result ≡ again (map unpack (drop i slots.now)) }
 {
-    let s = slot_at(t, i);
-    if bits::fields::slot_place(s[0]) == 0 {
-        return false;
-    }
-    if crate::marks::times(marks, crate::marks::mark_of(s)) == 1 {
-        return false;
-    }
-    crate::handle::in_use_from(t, &s[HANDLE_AT..KEY_AT], i + 1)
+    let s = &slots[i];
+    let handle = s[HANDLE_AT..KEY_AT].as_array().unwrap();
+    place_of(s) != Place::Empty
+        && !stands_once(marks, mark_of(s))
+        && used_in(&slots[i + 1..], handle)
 }
 
 // No two slots that are not empty have one handle: each is held against those after it.
-fn all_distinct(t: &[u8]) -> bool
-    ensures { result ≡ distinct (slots_of t.now) }
+fn all_distinct(slots: &[Slot]) -> bool
+    ensures { result ≡ distinct (map unpack slots.now) }
 {
-    let n = t.len() / SLOT_BYTES;
-    let marks = crate::marks::marks_of(t);
-    let mut i = 0;
-    while i < n {
-        if stands_again(t, &marks, i) {
-            return false;
-        }
-        i += 1;
-    }
-    true
+    let marks = marks_of(slots);
+    (0..slots.len()).all(|i| !stands_again(slots, &marks, i))
 }
 
 // The slots, and then their handles, by either rules; a table for which this is false is refused with 103.
-pub fn well_by(t: &[u8], old: bool) -> bool
-    ensures { result ≡ table_by old t.now }
+pub fn well_by(t: &[u8], rules: Rules) -> bool
+    ensures { result ≡ table_by rules t.now }
 {
-    if !all_well(t, old) {
-        return false;
-    }
-    all_distinct(t)
+    let slots = slots_in(t);
+    all_well(slots, rules) && all_distinct(slots)
 }
 
 // By the rules of today.
 pub fn well_table(t: &[u8]) -> bool
     ensures { result ≡ well_table t.now }
 {
-    well_by(t, false)
+    well_by(t, Rules::Today)
 }

@@ -1,21 +1,17 @@
--- `tables::handle::first_under` meets its contract. The invariant: no slot from the start up to i is under the handle. Assumes nothing.
-use mathlib.Core.Path.{sym, ◌∙◌}
-use native.Mathlib.Omega.{arith}
-use Rattle.tables.proofs.Turns.{under_stop, under_pass, under_end}
+-- `tables::handle::first_under` meets its contract: the closure is the test. Assumes nothing.
+use mathlib.Core.Path.{◌∙◌}
+use Rattle.std.proofs.Common.{rules, tests}
+use Rattle.std.proofs.lemmas.Iterator.{YieldsList-from_slice}
+use Rattle.std.proofs.lemmas.Iterator.Search.{position_from_yields_List}
+use Rattle.profile.specs.Bytes.{Bytes}
+use Rattle.profile.specs.Slot.{named}
+use Rattle.profile.specs.Table.{unpack}
+use Rattle.tables.proofs.Chains.{position_map}
 use Rattle.tables.proofs.handle.first_under.Goals as goal
-
-pub returns-then-is_under : goal.returns-then-is_under
-returns-then-is_under c =
-    let a = c.args in
-    omega (arith, under_stop a.t.now c.loop-i.i c.loop-i-test.true _ c.slot_at.ensures.0 a.h.now (sym c.is_under.ensures ∙ c.if-is_under.true))
-
-pub loop-i-preserved : goal.loop-i-preserved
-loop-i-preserved c =
-    let a = c.args in
-    let e = under_pass a.t.now c.loop-i.i c.loop-i-test.true _ c.slot_at.ensures.0 a.h.now (sym c.is_under.ensures ∙ c.if-is_under.false) in
-    (omega arith, omega arith, omega (arith, e))
 
 pub returns : goal.returns
 returns c =
-    let a = c.args in
-    omega (arith, under_end a.t.now c.loop-i.i c.loop-i-test.false a.h.now)
+    let h = c.args.h.now in
+    let ss = c.args.slots.now in
+    position_from_yields_List (λ (s : Bytes). named h (unpack s)) _ _ _ c.position.ensures.ran (YieldsList-from_slice ss cc) (λ x b q k. search (rules, tests))
+    ∙ position_map (named h) unpack ss

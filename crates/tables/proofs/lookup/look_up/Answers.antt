@@ -1,14 +1,10 @@
 -- `tables::lookup::look_up` meets its contract: the first slot under the handle, and the place of its record. Assumes nothing.
-use mathlib.Core.Path.{sym}
-use Rattle.tables.proofs.LookingUp.{answers_absent, answers_at}
+use mathlib.Core.Path.{◌∙◌}
+use Rattle.tables.proofs.LookingUp.{looks_absent, looks_at}
 use Rattle.tables.proofs.lookup.look_up.Goals as goal
 
-pub returns-then-i-t : goal.returns-then-i-t
-returns-then-i-t c =
-    let a = c.args in
-    sym (answers_absent a.t.now a.h _ c.first_under-i.ensures c.if-i-t.true)
+pub returns-in_err-at : goal.returns-in_err-at
+returns-in_err-at c = c.from_residual.ensures ∙ looks_absent c.args.t.now c.args.h _ c.slots_in-slots.ensures.0 _ c.first_under.ensures c.in_err-at.was
 
 pub returns : goal.returns
-returns c =
-    let a = c.args in
-    sym (answers_at a.t.now a.h _ c.first_under-i.ensures c.if-i-t.false _ _ c.slot_at.ensures.0 c.place_of.ensures)
+returns c = looks_at c.args.t.now c.args.h _ c.slots_in-slots.ensures.0 _ c.first_under.ensures c.in_ok-at.at c.in_ok-at.was c.place_of.result c.place_of.ensures

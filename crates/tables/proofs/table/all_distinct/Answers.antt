@@ -1,18 +1,15 @@
--- `tables::table::all_distinct` meets its contract. The invariant: the slots from i on decide. Assumes nothing.
-use mathlib.Core.Path.{refl, sym, ◌∙◌}
+-- `tables::table::all_distinct` meets its contract: the closure is the test of one slot against those after it. Assumes nothing.
+use mathlib.Core.Path.{◌∙◌}
 use native.Mathlib.Omega.{arith}
-use Rattle.tables.proofs.Turns.{distinct_pass, distinct_stop, distinct_end}
+use lib.ListN.{length}
+use Rattle.std.proofs.Common.{rules, tests}
+use Rattle.std.proofs.lemmas.Iterator.{YieldsList-from_range}
+use Rattle.std.proofs.lemmas.Iterator.Search.{all_from_yields_List}
+use Rattle.tables.proofs.Turns.{stands_alone, distinct_from}
 use Rattle.tables.proofs.table.all_distinct.Goals as goal
 
-pub returns-then-stands_again : goal.returns-then-stands_again
-returns-then-stands_again c =
-    let t = c.args.t.now in
-    sym (c.loop-i.invariant.1 ∙ distinct_stop t c.loop-i.i c.loop-i-test.true _ refl (sym c.stands_again.ensures ∙ c.if-stands_again.true))
-
-pub loop-i-preserved : goal.loop-i-preserved
-loop-i-preserved c =
-    let t = c.args.t.now in
-    (omega arith, c.loop-i.invariant.1 ∙ distinct_pass t c.loop-i.i c.loop-i-test.true _ refl (sym c.stands_again.ensures ∙ c.if-stands_again.false))
-
 pub returns : goal.returns
-returns c = sym (c.loop-i.invariant.1 ∙ distinct_end c.args.t.now c.loop-i.i c.loop-i-test.false)
+returns c =
+    let ss = c.args.slots.now in
+    all_from_yields_List (stands_alone ss) _ _ _ c.all.ensures.ran (YieldsList-from_range 0 (length ss) (length ss) (cc) (omega arith)) (λ x b q k. search (rules, tests))
+    ∙ distinct_from ss (length ss) 0 (omega arith)

@@ -1,21 +1,36 @@
 -- `tables::table::stands_again` meets its contract: an empty slot has no handle, one whose mark stands once stands once, and any other's
 -- is looked for in the slots after it. Assumes nothing.
 use mathlib.Core.Path.{sym, ◌∙◌}
-use Rattle.tables.proofs.Turns.{again_empty, again_taken}
+use mathlib.Core.Bool.{true≢false}
+use Rattle.profile.proofs.Logic.{not_false}
+use Rattle.slots.proofs.Places.{not_empty, empty_number}
+use Rattle.tables.proofs.Turns.{again_empty, again_used}
 use Rattle.tables.proofs.Marking.{mark_once}
+use Rattle.tables.proofs.table.stands_again.Goals.{then-ne, else-ne}
 use Rattle.tables.proofs.table.stands_again.Goals as goal
 
-pub returns-then-slot_place-eq0 : goal.returns-then-slot_place-eq0
-returns-then-slot_place-eq0 c = sym (again_empty c.args.t.now c.args.i c.requires.0 _ c.slot_at-s.ensures.0 (sym c.slot_place.ensures ∙ c.if-slot_place-eq0.true))
+pub returns-then-not-stands_once : goal.returns-then-not-stands_once
+returns-then-not-stands_once c =
+    let place = c.place_of in
+    let handle = (rw c.unwrap-handle.ensures at c.as_array.ensures.cases).same in
+    elim c.if-ne.branch [
+      | then-ne w ↦ again_used c.args.slots.now c.args.i c.requires.0 (λ e. not_empty place.result (sym c.ne.ensures ∙ w.if-ne.true) (place.ensures ∙ e)) _ handle _
+          c.used_in.ensures
+      | else-ne w ↦ absurd (true≢false (sym c.if-not-stands_once.true ∙ w.value-is ∙ w.if-ne.false))
+    ]
 
-pub returns-then-times-eq1 : goal.returns-then-times-eq1
-returns-then-times-eq1 c = sym
-    (mark_once c.args.t.now c.args.marks.now c.args.i c.requires.0 _ c.slot_at-s.ensures.0 c.requires.1 c.times.result c.mark_of.result
-    c.mark_of.ensures
-    c.times.ensures
-    c.if-times-eq1.true
-    (λ e. c.if-slot_place-eq0.false (c.slot_place.ensures ∙ e)))
-
-pub returns : goal.returns
-returns c = c.in_use_from.ensures
-    ∙ sym (again_taken c.args.t.now c.args.i c.requires.0 _ c.slot_at-s.ensures.0 (λ e. c.if-slot_place-eq0.false (c.slot_place.ensures ∙ e)))
+pub returns-else-not-stands_once : goal.returns-else-not-stands_once
+returns-else-not-stands_once c =
+    let ss = c.args.slots.now in
+    let i = c.args.i in
+    let place = c.place_of in
+    elim c.if-ne.branch [
+      | then-ne w ↦ c.if-not-stands_once.false
+          ∙ sym
+          (mark_once ss c.args.marks.now i c.requires.0 c.requires.1 w.mark_of.result
+          w.mark_of.ensures
+          (sym w.stands_once.ensures ∙ not_false _ (sym w.value-is ∙ c.if-not-stands_once.false))
+          (λ e. not_empty place.result (sym c.ne.ensures ∙ w.if-ne.true) (place.ensures ∙ e)))
+      | else-ne w ↦ c.if-not-stands_once.false
+          ∙ sym (again_empty ss i c.requires.0 (sym place.ensures ∙ empty_number place.result (sym c.ne.ensures ∙ w.if-ne.false)))
+    ]

@@ -2,8 +2,8 @@
 use Rattle.tables.proofs.WellTables.{not_all, all_then}
 use Rattle.tables.proofs.table.well_by.Goals as goal
 
-pub returns-then-not-all_well : goal.returns-then-not-all_well
-returns-then-not-all_well c = not_all c.args.t.now c.args.old c.all_well.ensures c.if-not-all_well.true
+pub returns-then-all_well : goal.returns-then-all_well
+returns-then-all_well c = all_then c.args.t.now c.args.rules _ c.slots_in-slots.ensures.0 c.all_well.ensures c.if-all_well.true c.all_distinct.ensures
 
-pub returns : goal.returns
-returns c = all_then c.args.t.now c.args.old c.all_well.ensures c.if-not-all_well.false c.all_distinct.ensures
+pub returns-else-all_well : goal.returns-else-all_well
+returns-else-all_well c = not_all c.args.t.now c.args.rules _ c.slots_in-slots.ensures.0 c.all_well.ensures c.if-all_well.false
