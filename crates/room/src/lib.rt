@@ -1,41 +1,36 @@
 // Where a table has room.
 #![tactic(auto)]
 
-ghost use Rattle.std.specs.Prelude.{◌≡◌, ◌<◌};
-ghost use Rattle.profile.specs.Table.{slot_count, slots_of};
-ghost use Rattle.profile.specs.Agent.{first_empty_from};
-ghost use Rattle.profile.specs.Laws.{onward as onward_of};
+ghost use Rattle.std.specs.Prelude.{◌≡◌, ◌<◌, length, map, nat_eq, MatchOption};
+ghost use Rattle.profile.specs.Table.{place_of, unpack, slot_count, slots_of};
+ghost use Rattle.profile.specs.Agent.{lowest_empty, first_empty_from};
 
-use profile::sizes::SLOT_BYTES;
-use tables::part::slot_at;
+use slots::Slot;
+use slots::place::{Place, place_of};
 
-// Of n slots, the one that is k steps on from the start: after the last one comes slot 0.
-fn onward(n: usize, start: usize, k: usize) -> usize
-    requires { (start < n) × (k < n) }
-    ensures { result ≡ onward_of n start k }
+// Only an empty slot is room: a reserved one is kept for its record (PROFILE 5.1).
+fn is_empty(s: &Slot) -> bool
+    ensures { result ≡ nat_eq (place_of s.now) 0 }
 {
-    let ahead = n - start;
-    if k < ahead {
-        return start + k;
-    }
-    k - ahead
+    place_of(s) == Place::Empty
 }
 
-// The slot that a setup takes (PROFILE 5.1): the first empty one on the way from the start round to the slot before it; the number of
-// slots if none is empty.
-pub fn first_empty_from(t: &[u8], start: usize) -> usize
-    requires { start < slot_count t.now }
-    ensures { result ≡ first_empty_from start (slots_of t.now) }
+// The first empty one of some slots.
+fn first_empty(slots: &[Slot]) -> Option<usize>
+    ensures { MatchOption result (lowest_empty (map unpack slots.now) ≡ length slots.now) (λ k. (k ≡ lowest_empty (map unpack slots.now)) × (k < length slots.now)) }
 {
-    let n = t.len() / SLOT_BYTES;
-    let mut k = 0;
-    while k < n {
-        let i = onward(n, start, k);
-        let s = slot_at(t, i);
-        if bits::fields::slot_place(s[0]) == 0 {
-            return i;
-        }
-        k += 1;
+    slots.iter().position(is_empty)
+}
+
+// The slot that a setup takes (PROFILE 5.1): the first empty one on the way from the start round to the slot before it.
+pub fn first_empty_from(t: &[u8], start: usize) -> Option<usize>
+    requires { start < slot_count t.now }
+    ensures { MatchOption result (first_empty_from start (slots_of t.now) ≡ slot_count t.now) (λ i. (i ≡ first_empty_from start (slots_of t.now)) × (i < slot_count t.now)) }
+{
+    let slots = tables::part::slots_in(t);
+    let (before, from) = slots.split_at(start);
+    match first_empty(from) {
+        Some(k) => Some(start + k),
+        None => first_empty(before),
     }
-    n // every slot is taken
 }
