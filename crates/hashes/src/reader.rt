@@ -16,22 +16,24 @@ fn nth_hash(bytes: &[u8], at: usize) -> [u8; HASH_BYTES]
     requires { HashStands at bytes.now }
     ensures { result ≡ hash_at at bytes.now }
 {
-    octets::arrays::hash_at(bytes, HASH_BYTES * at)
+    octets::arrays::array_at(bytes, HASH_BYTES * at)
 }
 
-// A reader of some hash bytes, at a position.
-fn reader_at<'a>(bytes: &'a [u8], at: usize) -> HashReader<'a>
-    ensures { result ≡ reader_at bytes.entry at }
-{
-    HashReader { bytes, at }
-}
+impl<'a> HashReader<'a> {
+    // A reader of some hash bytes, at a position.
+    fn new(bytes: &'a [u8], at: usize) -> HashReader<'a>
+        ensures { result ≡ reader_at bytes.entry at }
+    {
+        HashReader { bytes, at }
+    }
 
-// The hash at the reader's position.
-fn read<'a>(reader: HashReader<'a>) -> [u8; HASH_BYTES]
-    requires { Reads reader }
-    ensures { result ≡ hash_read reader.entry }
-{
-    nth_hash(reader.bytes, reader.at)
+    // The hash at the reader's position.
+    fn read(self) -> [u8; HASH_BYTES]
+        requires { Reads self }
+        ensures { result ≡ hash_read self.entry }
+    {
+        nth_hash(self.bytes, self.at)
+    }
 }
 
 // Hash i of a slot's hash bytes, counted from 0, through a reader of them.
@@ -39,5 +41,5 @@ pub(crate) fn hash_of(bytes: &[u8], i: usize) -> [u8; HASH_BYTES]
     requires { HashStands i bytes.now }
     ensures { result ≡ hash_at i bytes.now }
 {
-    read(reader_at(bytes, i))
+    HashReader::new(bytes, i).read()
 }

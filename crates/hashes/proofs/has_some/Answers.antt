@@ -1,11 +1,10 @@
 -- `hashes::has_some` meets its contract. Assumes nothing.
+use mathlib.Core.Path.{◌∙◌}
 use Rattle.hashes.proofs.Querying.{record_none, record_some}
 use Rattle.hashes.proofs.has_some.Goals as goal
 
-pub returns-then-count-eq0 : goal.returns-then-count-eq0
-returns-then-count-eq0 c =
-    let a = c.args in
-    record_none a.s.now a.q.now _ c.slot_hashes-count.ensures c.if-count-eq0.true
+pub returns-then-count-ne0 : goal.returns-then-count-ne0
+returns-then-count-ne0 c = record_some c.args.s.now c.args.q.now _ (c.from-count.ensures ∙ c.slot_hashes.ensures) _ c.told-s c.requires c.has_one_of.ensures
 
-pub returns : goal.returns
-returns c = record_some c.args.s.now c.args.q.now _ c.slot_hashes-count.ensures _ c.requires.0 c.requires.1 c.has_one_of.ensures
+pub returns-else-count-ne0 : goal.returns-else-count-ne0
+returns-else-count-ne0 c = let z = c.if-count-ne0.false in rw z (record_none c.args.s.now c.args.q.now _ (c.from-count.ensures ∙ c.slot_hashes.ensures) z)

@@ -1,32 +1,28 @@
--- `hashes::is_listed` meets its contract, place by place. Assumes nothing.
-use mathlib.Core.Path.{sym, ap, ◌∙◌}
-use native.Mathlib.Omega.{arith}
-use Rattle.slots.specs.Places.{place_number}
+-- `hashes::is_listed` meets its contract: an enabled slot by the query, any other not. Assumes nothing.
+use mathlib.Core.Path.{sym, ◌∙◌}
+use mathlib.Core.Bool.{true≢false}
+use borrow.Author.Tests.{eqb-true, eqb-false}
 use Rattle.hashes.proofs.Querying.{not_listed, listed_all, listed_some}
+use Rattle.hashes.proofs.is_listed.Goals.{in-Enabled, in_default}
 use Rattle.hashes.proofs.is_listed.Goals as goal
 
-pub returns-then-q-eq0 : goal.returns-then-q-eq0
-returns-then-q-eq0 c =
-    let a = c.args in
-    listed_all a.s.now a.q.now (sym c.place_of-place.ensures ∙ ap place_number c.in-Enabled.is) c.if-q-eq0.true
+pub returns-then-is_empty : goal.returns-then-is_empty
+returns-then-is_empty c =
+    elim c.match-matches.branch [
+      | in-Enabled w ↦ rw c.if-is_empty.true (listed_all c.args.s.now _ c.place_of.ensures w.in-Enabled.is _ (eqb-true _ _ (sym c.is_empty.ensures ∙ c.if-is_empty.true)))
+      | in_default w ↦ absurd (true≢false (sym c.if-matches.true ∙ w.matches-is))
+    ]
 
-pub returns-else-q-eq0 : goal.returns-else-q-eq0
-returns-else-q-eq0 c =
-    let a = c.args in
-    listed_some a.s.now a.q.now _
-    (sym c.place_of-place.ensures ∙ ap place_number c.in-Enabled.is) (omega arith) c.has_some.ensures
+pub returns-else-is_empty : goal.returns-else-is_empty
+returns-else-is_empty c =
+    elim c.match-matches.branch [
+      | in-Enabled w ↦ listed_some c.args.s.now _ c.place_of.ensures w.in-Enabled.is _ _ (eqb-false _ _ (sym c.is_empty.ensures ∙ c.if-is_empty.false)) c.has_some.ensures
+      | in_default w ↦ absurd (true≢false (sym c.if-matches.true ∙ w.matches-is))
+    ]
 
-pub returns-in-Empty : goal.returns-in-Empty
-returns-in-Empty c =
-    let a = c.args in
-    not_listed a.s.now a.q.now 0 (sym c.place_of-place.ensures ∙ ap place_number c.in-Empty.is) (λ e. omega arith)
-
-pub returns-in-Reserved : goal.returns-in-Reserved
-returns-in-Reserved c =
-    let a = c.args in
-    not_listed a.s.now a.q.now 1 (sym c.place_of-place.ensures ∙ ap place_number c.in-Reserved.is) (λ e. omega arith)
-
-pub returns-in-Disabled : goal.returns-in-Disabled
-returns-in-Disabled c =
-    let a = c.args in
-    not_listed a.s.now a.q.now 3 (sym c.place_of-place.ensures ∙ ap place_number c.in-Disabled.is) (λ e. omega arith)
+pub returns-else-matches : goal.returns-else-matches
+returns-else-matches c =
+    elim c.match-matches.branch [
+      | in-Enabled w ↦ absurd (true≢false (sym w.matches-is ∙ c.if-matches.false))
+      | in_default w ↦ rw w.matches-is (not_listed c.args.s.now _ c.place_of.ensures _ w.in_default.not-Enabled)
+    ]

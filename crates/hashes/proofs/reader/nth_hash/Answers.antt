@@ -4,4 +4,4 @@ use Rattle.hashes.proofs.reader.nth_hash.Goals as goal
 
 pub returns : goal.returns
 unfolding hash_at
-returns c = c.hash_at.ensures
+returns c = c.array_at.ensures
