@@ -17,7 +17,6 @@ use Rattle.tallies.specs.declared.update.Change.{Change}
 use Rattle.tallies.specs.declared.update.Change.TheVariants.{Same}
 use Rattle.tallies.specs.Shares.{share, less, Within, Small}
 use Rattle.tallies.specs.Changes.{place_in, length_in, moved, change_in, updated, Updates}
-use Rattle.tallies.proofs.Updating.{five}
 
 -- a slot counts for its place and its length
 pub slot_share : (s : Slot) → in_slot s ≡ share (place_in s) (length_in s)
@@ -93,6 +92,10 @@ tally_small t f few =
     payload = rw (sums t) (payload_most t f)
 
 -- ---- the new numbers
+-- five equal numbers are one tally
+five : {a b : Tally} → a.empty ≡ b.empty → a.reserved ≡ b.reserved → a.enabled ≡ b.enabled → a.disabled ≡ b.disabled → a.payload ≡ b.payload → a ≡ b
+five e r u d p = λ k. record { empty = e k; reserved = r k; enabled = u k; disabled = d k; payload = p k }
+
 moved_tally : (t : List Slot) (i : ℕ) (s x : Slot) → get_elem? t i ≡ some s → plus (less (tally_of t) (in_slot s)) (in_slot x) ≡ tally_of (set t i x)
 moved_tally t i s x p =
     let w = counted t i s p in
