@@ -10,4 +10,5 @@ use Rattle.changes.proofs.fields.put_head.Goals as goal
 pub returns : goal.returns
 returns c =
     let s = c.args.s.now in
-    over_byte s c.slot_head.result (omega arith) ∙ ap (λ (b : ℕ). over_at 0 (b ∷ []) s) c.slot_head.ensures
+    over_byte s c.slot_head.result (omega (arith, c.requires.1))
+    ∙ ap (λ (b : ℕ). over_at 0 (b ∷ []) s) (omega (arith, c.slot_head.ensures, c.number.ensures.0, c.kept_bit.ensures.0))

@@ -7,4 +7,4 @@ use Rattle.changes.proofs.fields.with_place.Goals as goal
 pub returns : goal.returns
 returns c =
     let b = c.args.b in
-    omega (arith, and_mask b 6, join 6 8 c.args.place (bit_and b 63) (omega arith) (mask_lt b 6))
+    omega (arith, and_mask b 6, c.number.ensures.0, join 6 8 c.number.result (bit_and b 63) (omega (arith, c.number.ensures.1)) (mask_lt b 6))

@@ -1,4 +1,5 @@
 -- `changes::slot::install` meets its contract: the fields of the right are written one after another. Assumes nothing.
+use mathlib.Core.Path.{refl}
 use Rattle.octets.proofs.ByteBounds.{below_256}
 use Rattle.changes.proofs.SlotBytes.{given_stored}
 use borrow.Author.Rules.{rules}
@@ -12,4 +13,4 @@ returns c =
     let label = c.put_label in
     given_stored a.key a.count a.hashes a.n a.src.now a.at (search rules) c.requires.1 c.requires.2 c.requires.3
     a.s.now label.new.s terms.new.s content.new.s a.h _ (below_256 a.s.now (search rules)) (search rules) c.requires.0
-    c.kept_bit-kept.ensures.0 label.ensures terms.ensures content.ensures
+    refl label.ensures terms.ensures content.ensures
