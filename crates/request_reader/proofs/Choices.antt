@@ -1,14 +1,14 @@
--- Tests and what the branches say of them: the sets for a `return` of a function whose contract goes by tests, and numbers that are no kind, or no kind with a count.
--- Assumes nothing.
-use Prim.Native.Nat.{ℕ, zero, suc}
-use mathlib.Core.Path.{◌≡◌, refl}
-use mathlib.Core.List.{List, [], ◌∷◌}
+-- Tests and what the branches say of them: the sets for a `return` of a function whose contract goes by tests. Assumes nothing.
+use Prim.Native.Nat.{ℕ}
+use mathlib.Core.Path.{◌≡◌, sym, ap, ◌∙◌}
 use mathlib.Core.Bool.{Bool, true, false, not}
-use mathlib.Core.Option.{none}
 use borrow.Author.Tests.{eq-eqb, ne_eqb, lt-ltb, le-ltb, le-leb, lt-leb, not-true, not-false}
+use lib.Dec.{eqb}
+use Rattle.std.specs.Prelude.{if◌then◌else◌, Result, Ok, Err, IsErrAnd}
 use Rattle.profile.specs.Slot.{count_holds}
-use Rattle.profile.specs.Frame.{kind_of}
-use Rattle.profile.specs.Request.{sends_count}
+use Rattle.request_reader.specs.declared.asked.Why.{Why}
+use Rattle.request_reader.specs.declared.asked.Why.TheVariants.{Parameter, Integrity}
+use Rattle.request_reader.specs.Asking.{tested}
 
 pub ruleset tests = (eq-eqb, ne_eqb, lt-ltb, le-ltb, le-leb, lt-leb)
 
@@ -26,35 +26,25 @@ no_count_said {h = h} p q e t = rw (← p, ← q, ← e) (not-true h t)
 pub count_said : {b m bit n : ℕ} {h : Bool} → b ≡ bit → m ≡ n → h ≡ count_holds b m → not h ≡ false → count_holds bit n ≡ true
 count_said {h = h} p q e t = rw (← p, ← q, ← e) (not-false h t)
 
--- what the last arm of a `match` on a number says: none of these, the last one first
-abbrev pub NoneOf : List ℕ → ℕ → Type 0
-NoneOf [] k = Unit {0}
-NoneOf (j ∷ js) k = NoneOf js k × (k ≡ j → ⊥)
+-- an error that `?` hands on
+pub handed_on : {A : Type 0} {r : Result A Why} {w : Why} → IsErrAnd r (λ x. x ≡ w) → r ≡ Err w
+handed_on {r = Ok x} h = absurd h
+handed_on {r = Err x} h = ap Err h
 
--- a number that is not 1 to 9 is no kind
-pub no_kind : (k : ℕ) → NoneOf (9 ∷ 8 ∷ 7 ∷ 6 ∷ 5 ∷ 4 ∷ 3 ∷ 2 ∷ 1 ∷ []) k → kind_of k ≡ none
-no_kind zero h = refl
-no_kind (suc zero) h = absurd (h.0.0.0.0.0.0.0.0.1 refl)
-no_kind (suc (suc zero)) h = absurd (h.0.0.0.0.0.0.0.1 refl)
-no_kind (suc (suc (suc zero))) h = absurd (h.0.0.0.0.0.0.1 refl)
-no_kind (suc (suc (suc (suc zero)))) h = absurd (h.0.0.0.0.0.1 refl)
-no_kind (suc (suc (suc (suc (suc zero))))) h = absurd (h.0.0.0.0.1 refl)
-no_kind (suc (suc (suc (suc (suc (suc zero)))))) h = absurd (h.0.0.0.1 refl)
-no_kind (suc (suc (suc (suc (suc (suc (suc zero))))))) h = absurd (h.0.0.1 refl)
-no_kind (suc (suc (suc (suc (suc (suc (suc (suc zero)))))))) h = absurd (h.0.1 refl)
-no_kind (suc (suc (suc (suc (suc (suc (suc (suc (suc zero))))))))) h = absurd (h.1 refl)
-no_kind (suc (suc (suc (suc (suc (suc (suc (suc (suc (suc k)))))))))) h = refl
+-- the tests of a body, by what `fits` gave: the refusal is the answer's, or the tests hold
+module _ {A : Type 0} (fits : Bool) (v : ℕ) {t : Result (Unit {0}) Why} (e : t ≡ tested fits v (Ok tt)) where
+  pub refused_too : {w : Why} → t ≡ Err w → {s : Result A Why} → s ≡ Err w → (a : Result A Why) → s ≡ tested fits v a
+  refused_too {w} p {s} q a = go fits (eqb v 0) (sym e ∙ p)
+    where
+      go : (f z : Bool) → (if not f then Err Parameter else if z then Err Integrity else Ok (tt {0})) ≡ Err w → s ≡ (if not f then Err Parameter else if z then Err Integrity else a)
+      go true true h = cc
+      go true false h = cc
+      go false z h = cc
 
--- a number that is not 2 or 5 is no kind that sends a count
-pub no_count_lem : (k : ℕ) → NoneOf (5 ∷ 2 ∷ []) k → sends_count (kind_of k) ≡ false
-no_count_lem zero h = refl
-no_count_lem (suc zero) h = refl
-no_count_lem (suc (suc zero)) h = absurd (h.0.1 refl)
-no_count_lem (suc (suc (suc zero))) h = refl
-no_count_lem (suc (suc (suc (suc zero)))) h = refl
-no_count_lem (suc (suc (suc (suc (suc zero))))) h = absurd (h.1 refl)
-no_count_lem (suc (suc (suc (suc (suc (suc zero)))))) h = refl
-no_count_lem (suc (suc (suc (suc (suc (suc (suc zero))))))) h = refl
-no_count_lem (suc (suc (suc (suc (suc (suc (suc (suc zero)))))))) h = refl
-no_count_lem (suc (suc (suc (suc (suc (suc (suc (suc (suc zero))))))))) h = refl
-no_count_lem (suc (suc (suc (suc (suc (suc (suc (suc (suc (suc k)))))))))) h = refl
+  pub goes_on : {u : Unit {0}} → t ≡ Ok u → {s a : Result A Why} → s ≡ a → s ≡ tested fits v a
+  goes_on {u} p {s} {a} q = go fits (eqb v 0) (sym e ∙ p)
+    where
+      go : (f z : Bool) → (if not f then Err Parameter else if z then Err Integrity else Ok (tt {0})) ≡ Ok u → s ≡ (if not f then Err Parameter else if z then Err Integrity else a)
+      go true true h = cc
+      go true false h = q
+      go false z h = cc

@@ -7,11 +7,10 @@ use native.Mathlib.Omega.{arith}
 use lib.Dec.{eqb, leb}
 use lib.ListN.{length, get_or, drop, length-drop}
 use lib.Seq.{drop-drop, take_all, get_or-drop}
-use Rattle.std.specs.Prelude.{if◌then◌else◌}
+use Rattle.std.specs.Prelude.{if◌then◌else◌, Result, Ok, Err, IfOk, None}
 use Rattle.profile.specs.Bytes.{Bytes, byte, part, word, zeros, from1to}
 use Rattle.profile.specs.Sizes.{most_payload, handle_size, key_size, hash_size, most_hashes}
 use Rattle.profile.specs.Frame.{Kind, setup_kind, install_kind, retrieve_kind, rek_kind, enable_kind, remove_kind, cancel_kind, list_kind, info_kind, kind_of, kind_number, is_frame, version_holds, body, parameter}
-use Rattle.profile.specs.declared.Count.TheVariants.{NoneKept}
 use Rattle.profile.specs.Slot.{Count, count_holds, count_with}
 use Rattle.profile.specs.Request.{install, Read, asks, refused, zero_bits, verdict, kept_asked, body_fits, guarded, fields_hold, fields, read_kind, read_request}
 use Rattle.profile.proofs.Logic.{and_parts, not_false, eqb_eq, leb_le, from_1_to_says}
@@ -20,10 +19,9 @@ use Rattle.request_reader.specs.declared.asked.Why.{Why}
 use Rattle.request_reader.specs.declared.asked.Why.TheVariants.{NoFrame, Integrity, Parameter, Unsupported}
 use Rattle.request_reader.specs.declared.asked.Body.{Body}
 use Rattle.request_reader.specs.declared.asked.Body.TheVariants as variant
-use Rattle.request_reader.specs.declared.asked.Ask.TheVariants.{Yes}
 use Rattle.request_reader.specs.declared.asked.Asked.{Asked}
-use Rattle.request_reader.specs.Asking.{refusal, one_handle, two_handles, installation, list_query as listing, install_holds, of_right, of_install, of_enable, list_holds, of_list, of_fields, heeded, of_kind, asked}
-use Rattle.request_reader.specs.Answer.{why_means, right_in, meaning, InstallEnds, ListEnds, AskEnds, Sizes, Answers}
+use Rattle.request_reader.specs.Asking.{one_handle, two_handles, installation, list_query as listing, install_holds, of_right, of_install, of_enable, list_holds, of_list, of_fields, heeded, of_kind, asked}
+use Rattle.request_reader.specs.Answer.{why_means, right_in, meaning, InstallEnds, ListEnds, BodyEnds, Sizes, Answers}
 
 -- two choices by one test, side by side
 if_alike : {A B : Type 0} (R : A → B → Type 0) (b : Bool) {x y : A} {x' y' : B} → (b ≡ true → R x x') → (b ≡ false → R y y') → R (if b then x else y) (if b then x' else y')
@@ -40,25 +38,25 @@ word_from : (n at : ℕ) (f : Bytes) → word at (drop n f) ≡ word (n + at) f
 word_from n at f = ap₂ (λ (a b : ℕ). 256 * a + b) (get_or-drop n f at 0) (get_or-drop n f (at + 1) 0 ∙ ap (λ (i : ℕ). get_or f i 0) (omega arith))
 
 -- an answer and what the profile reads of the frame
-record Agree (f : Bytes) (a : Asked) (r : Read) : Type 0 where
+record Agree (f : Bytes) (a : Result Asked Why) (r : Read) : Type 0 where
   means : meaning f a ≡ r
-  ends : AskEnds f a.ask
-  sizes : Sizes a
+  ends : IfOk a (λ x. BodyEnds f x.body)
+  sizes : IfOk a Sizes
 
 -- the arrays of an answer that has none
 none_sized : (a : Asked) → a.handle ≡ zeros handle_size → a.new ≡ zeros handle_size → a.key ≡ zeros key_size → Sizes a
 none_sized a h n k = record { handle_10 = rw h (length_zeros handle_size); new_10 = rw n (length_zeros handle_size); key_16 = rw k (length_zeros key_size) }
 
-refuses : (f : Bytes) (w : Why) → Agree f (refusal w) (why_means w)
-unfolding refusal meaning
-refuses f w = record { means = refl; ends = tt; sizes = none_sized (refusal w) refl refl refl }
+refuses : (f : Bytes) (w : Why) → Agree f (Err w) (why_means w)
+unfolding meaning
+refuses f w = record { means = refl; ends = tt; sizes = tt }
 
 -- an answer with a handle, and with two
-one_agrees : (f : Bytes) (c : Count) (b : Body) (r : Read) → 14 ≤ length f → meaning f (one_handle f c b) ≡ r → AskEnds f (Yes b) → Agree f (one_handle f c b) r
+one_agrees : (f : Bytes) (c : Count) (b : Body) (r : Read) → 14 ≤ length f → meaning f (Ok (one_handle f c b)) ≡ r → BodyEnds f b → Agree f (Ok (one_handle f c b)) r
 unfolding one_handle
 one_agrees f c b r h m e = record { means = m; ends = e; sizes = record { handle_10 = length_part 4 handle_size f h; new_10 = length_zeros handle_size; key_16 = length_zeros key_size } }
 
-two_agree : (f : Bytes) (b : Body) (r : Read) → 24 ≤ length f → meaning f (two_handles f b) ≡ r → AskEnds f (Yes b) → Agree f (two_handles f b) r
+two_agree : (f : Bytes) (b : Body) (r : Read) → 24 ≤ length f → meaning f (Ok (two_handles f b)) ≡ r → BodyEnds f b → Agree f (Ok (two_handles f b)) r
 unfolding two_handles
 two_agree f b r h m e = record { means = m; ends = e; sizes = record { handle_10 = length_part 4 handle_size f (omega arith); new_10 = length_part 14 handle_size f h; key_16 = length_zeros key_size } }
 
@@ -178,15 +176,15 @@ module _ (f : Bytes) (is : is_frame f ≡ true) where
   -- ---- every kind, past the tests of its length and of the verdict
   fields_agree : (k : Kind) → body_fits k n ≡ true → Agree f (of_fields k n f) (if not (fields_hold k f) then refused parameter else asks (fields k f))
   unfolding one_handle two_handles meaning
-  fields_agree setup_kind h = one_agrees f NoneKept (variant.Setup (word 14 f)) (asks (fields setup_kind f)) (omega (arith, long, eqb_eq n 12 h)) (rw word_10) tt
+  fields_agree setup_kind h = one_agrees f None (variant.Setup (word 14 f)) (asks (fields setup_kind f)) (omega (arith, long, eqb_eq n 12 h)) (rw word_10) tt
   fields_agree install_kind h = install_agrees (install_holds n f) (count_holds (kept_asked f) (word 30 f)) refl refl
   fields_agree retrieve_kind h = two_agree f variant.Retrieve (asks (fields retrieve_kind f)) (omega (arith, long, eqb_eq n 20 h)) (rw (rest 10 10 (eqb_eq n 20 h))) tt
   fields_agree rek_kind h = two_agree f variant.Rek (asks (fields rek_kind f)) (omega (arith, long, eqb_eq n 20 h)) (rw (rest 10 10 (eqb_eq n 20 h))) tt
   fields_agree enable_kind h = enable_agrees (eqb_eq n 12 h) (count_holds (kept_asked f) (word 14 f)) refl
-  fields_agree remove_kind h = one_agrees f NoneKept variant.Remove (asks (fields remove_kind f)) (omega (arith, long, eqb_eq n 10 h)) (rw (rest 0 10 (eqb_eq n 10 h))) tt
-  fields_agree cancel_kind h = one_agrees f NoneKept variant.Cancel (asks (fields cancel_kind f)) (omega (arith, long, eqb_eq n 10 h)) (rw (rest 0 10 (eqb_eq n 10 h))) tt
+  fields_agree remove_kind h = one_agrees f None variant.Remove (asks (fields remove_kind f)) (omega (arith, long, eqb_eq n 10 h)) (rw (rest 0 10 (eqb_eq n 10 h))) tt
+  fields_agree cancel_kind h = one_agrees f None variant.Cancel (asks (fields cancel_kind f)) (omega (arith, long, eqb_eq n 10 h)) (rw (rest 0 10 (eqb_eq n 10 h))) tt
   fields_agree list_kind h = list_agrees (list_holds n f) refl
-  fields_agree info_kind h = one_agrees f NoneKept variant.Info (asks (fields info_kind f)) (omega (arith, long, eqb_eq n 10 h)) (rw (rest 0 10 (eqb_eq n 10 h))) tt
+  fields_agree info_kind h = one_agrees f None variant.Info (asks (fields info_kind f)) (omega (arith, long, eqb_eq n 10 h)) (rw (rest 0 10 (eqb_eq n 10 h))) tt
 
   verdict_alike : (k : Kind) (v : ℕ) → (guarded k && eqb v 0) ≡ eqb (heeded k v) 0
   verdict_alike k v = go (guarded k)
@@ -212,5 +210,5 @@ agrees f =
     if_alike (Agree f) (not (version_holds f && zero_bits f)) (λ _. refuses f Parameter) λ _.
     kind_agrees f (not_false (is_frame f) h) (kind_of (kind_number f))
 
-pub answers : (f : Bytes) (r : Asked) → r ≡ asked f → Answers f r
+pub answers : (f : Bytes) (r : Result Asked Why) → r ≡ asked f → Answers f r
 answers f r e = record { exact = e; means = rw e (agrees f).means; ends = rw e (agrees f).ends; sizes = rw e (agrees f).sizes }

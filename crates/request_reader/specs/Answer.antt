@@ -1,5 +1,5 @@
 -- What the request reader's answer means in the card profile, for each case of its enum; and what it promises of every frame.
-use Rattle.std.specs.Prelude.{ℕ, ◌+◌, ◌*◌, ◌≤◌, ◌≡◌, length, drop}
+use Rattle.std.specs.Prelude.{ℕ, ◌+◌, ◌*◌, ◌≤◌, ◌≡◌, length, drop, Result, Ok, Err, IfOk}
 use Rattle.profile.specs.Bytes.{Bytes, part, pieces}
 use Rattle.profile.specs.Sizes.{most_payload, handle_size, key_size, hash_size, most_hashes}
 use Rattle.profile.specs.Slot.{Count, Right, right_with}
@@ -9,8 +9,6 @@ use Rattle.request_reader.specs.declared.asked.Why.{Why}
 use Rattle.request_reader.specs.declared.asked.Why.TheVariants.{NoFrame, Integrity, Parameter, Unsupported}
 use Rattle.request_reader.specs.declared.asked.Body.{Body}
 use Rattle.request_reader.specs.declared.asked.Body.TheVariants.{Setup, Install, Retrieve, Rek, Enable, Remove, Cancel, List, Info}
-use Rattle.request_reader.specs.declared.asked.Ask.{Ask}
-use Rattle.request_reader.specs.declared.asked.Ask.TheVariants.{No, Yes}
 use Rattle.request_reader.specs.declared.asked.Asked.{Asked}
 use Rattle.request_reader.specs.Asking.{asked}
 
@@ -39,12 +37,9 @@ body_means f Cancel r = cancel r.handle
 body_means f (List limit n at) r = list limit (hashes_in f n at)
 body_means f Info r = info r.handle
 
-abbrev pub ask_means : Bytes → Ask → Asked → Read
-ask_means f (No w) r = why_means w
-ask_means f (Yes b) r = asks (body_means f b r)
-
-unfoldable pub meaning : Bytes → Asked → Read
-meaning f r = ask_means f r.ask r
+unfoldable pub meaning : Bytes → Result Asked Why → Read
+meaning f (Ok r) = asks (body_means f r.body r)
+meaning f (Err w) = why_means w
 
 -- ---- where the hashes and the payload end
 pub record InstallEnds (f : Bytes) (n at len : ℕ) : Type 0 where
@@ -68,19 +63,15 @@ BodyEnds f Cancel = Unit {0}
 BodyEnds f (List limit n at) = ListEnds f n at
 BodyEnds f Info = Unit {0}
 
-abbrev pub AskEnds : Bytes → Ask → Type 0
-AskEnds f (No w) = Unit {0}
-AskEnds f (Yes b) = BodyEnds f b
-
 -- ---- the lengths of the arrays, the zero ones too
 pub record Sizes (r : Asked) : Type 0 where
   pub handle_10 : length r.handle ≡ handle_size
   pub new_10 : length r.new ≡ handle_size
   pub key_16 : length r.key ≡ key_size
 
--- ---- the promise: the answer is exactly this one, means what the profile reads, and its offsets lie in the frame
-pub record Answers (f : Bytes) (r : Asked) : Type 0 where
+-- ---- the promise: the answer is exactly this one, means what the profile reads, and the offsets of a request lie in the frame
+pub record Answers (f : Bytes) (r : Result Asked Why) : Type 0 where
   pub exact : r ≡ asked f
   pub means : meaning f r ≡ read_request f
-  pub ends : AskEnds f r.ask
-  pub sizes : Sizes r
+  pub ends : IfOk r (λ a. BodyEnds f a.body)
+  pub sizes : IfOk r Sizes

@@ -1,54 +1,54 @@
 -- `request_reader::reader::install_fields` meets its contract, test by test. Assumes nothing.
 use mathlib.Core.Bool.{not}
-use mathlib.Core.Path.{ap, ◌∙◌}
+use mathlib.Core.Path.{refl, ap, ◌∙◌}
 use Rattle.request_reader.proofs.Choices.{was_false, was_true}
 use Rattle.request_reader.proofs.InstallTests.{hashes_out, zero_bit_set, no_payload, long_payload, installs}
 use Rattle.request_reader.proofs.reader.install_fields.Goals as goal
 
 pub returns-then-not-hashes_fit : goal.returns-then-not-hashes_fit
-returns-then-not-hashes_fit c = hashes_out _ _ (c.wide-hashes.ensures ∙ c.hash_count_of.ensures) (was_false c.hashes_fit.ensures (ap not c.if-not-hashes_fit.true)) c.refuse.ensures
+returns-then-not-hashes_fit c = hashes_out _ _ (c.from-hashes.ensures ∙ c.hash_count_of.ensures) (was_false c.hashes_fit.ensures (ap not c.if-not-hashes_fit.true)) refl
 
 pub returns-then-hash_count_rest-ne0 : goal.returns-then-hash_count_rest-ne0
 returns-then-hash_count_rest-ne0 c = zero_bit_set
     _
     _
-    (c.wide-hashes.ensures ∙ c.hash_count_of.ensures)
+    (c.from-hashes.ensures ∙ c.hash_count_of.ensures)
     (was_true c.hashes_fit.ensures (ap not c.if-not-hashes_fit.false))
     c.hash_count_rest.ensures
     c.if-hash_count_rest-ne0.true
-    c.refuse-then-hash_count_rest-ne0.ensures
+    refl
 
 pub returns-then-n-start : goal.returns-then-n-start
-returns-then-n-start c = no_payload
+returns-then-n-start c = rw (← c.body_length-n.ensures) (no_payload
     _
     _
-    (c.wide-hashes.ensures ∙ c.hash_count_of.ensures)
+    (c.from-hashes.ensures ∙ c.hash_count_of.ensures)
     (was_true c.hashes_fit.ensures (ap not c.if-not-hashes_fit.false))
     c.hash_count_rest.ensures
     c.if-hash_count_rest-ne0.false
     c.if-n-start.true
-    c.refuse-then-n-start.ensures
+    refl)
 
 pub returns-then-payload-gt-MOST_PAYLOAD : goal.returns-then-payload-gt-MOST_PAYLOAD
-returns-then-payload-gt-MOST_PAYLOAD c = long_payload
+returns-then-payload-gt-MOST_PAYLOAD c = rw (← c.body_length-n.ensures) (long_payload
     _
     _
-    (c.wide-hashes.ensures ∙ c.hash_count_of.ensures)
+    (c.from-hashes.ensures ∙ c.hash_count_of.ensures)
     (was_true c.hashes_fit.ensures (ap not c.if-not-hashes_fit.false))
     c.hash_count_rest.ensures
     c.if-hash_count_rest-ne0.false
     c.if-n-start.false
     c.if-payload-gt-MOST_PAYLOAD.true
-    c.refuse-then-payload-gt-MOST_PAYLOAD.ensures
+    refl)
 
 pub returns : goal.returns
-returns c = installs
+returns c = rw (← c.body_length-n.ensures) (installs
     _
     _
-    (c.wide-hashes.ensures ∙ c.hash_count_of.ensures)
+    (c.from-hashes.ensures ∙ c.hash_count_of.ensures)
     (was_true c.hashes_fit.ensures (ap not c.if-not-hashes_fit.false))
     c.hash_count_rest.ensures
     c.if-hash_count_rest-ne0.false
     c.if-n-start.false
     c.if-payload-gt-MOST_PAYLOAD.false
-    c.install_count.ensures
+    c.install_count.ensures)

@@ -1,26 +1,15 @@
--- `request_reader::reader::read_frame` meets its contract, test by test. Assumes nothing.
-use Rattle.request_reader.specs.Asking.{asked}
-use Rattle.request_reader.proofs.Choices.{tests}
+-- `request_reader::reader::read_frame` meets its contract: the head refuses it, or its kind answers. Assumes nothing.
+use mathlib.Core.Path.{ap, ◌∙◌}
+use Prim.Native.Nat.{ℕ, ◌-◌}
+use lib.ListN.{length}
+use Rattle.codes.specs.Codes.{kind_meant}
+use mathlib.Core.Option.{some}
+use Rattle.request_reader.specs.Asking.{of_kind}
+use Rattle.request_reader.proofs.Choices.{handed_on}
 use Rattle.request_reader.proofs.reader.read_frame.Goals as goal
 
-pub returns-then-f-lt4 : goal.returns-then-f-lt4
-unfolding asked
-returns-then-f-lt4 c = search tests
-
-pub returns-then-f-n : goal.returns-then-f-n
-unfolding asked
-returns-then-f-n c = search (tests, ← c.wide_word-n.ensures, ← c.word_at.ensures)
-
-pub returns-then-frame_version-ne1 : goal.returns-then-frame_version-ne1
-unfolding asked
-returns-then-frame_version-ne1 c = search (tests, ← c.frame_version.ensures, ← c.wide_word-n.ensures, ← c.word_at.ensures)
-
-pub returns-then-not-zero_bits : goal.returns-then-not-zero_bits
-unfolding asked
-returns-then-not-zero_bits c = search
-    (tests, c.if-not-zero_bits.true, ← c.zero_bits.ensures, ← c.frame_kind-kind.ensures, ← c.frame_version.ensures, ← c.wide_word-n.ensures, ← c.word_at.ensures)
+pub returns-in_err-kind : goal.returns-in_err-kind
+returns-in_err-kind c = handed_on c.from_residual.ensures.1 ∙ c.in_err-kind.ensures
 
 pub returns : goal.returns
-unfolding asked
-returns c = search
-    (tests, c.if-not-zero_bits.false, ← c.flag_of.ensures, ← c.zero_bits.ensures, ← c.frame_kind-kind.ensures, ← c.frame_version.ensures, ← c.wide_word-n.ensures, ← c.word_at.ensures)
+returns c = c.read_kind.ensures ∙ ap (λ (v : ℕ). of_kind (some (kind_meant c.in_ok-kind.kind)) (length c.args.f.now - 4) v c.args.f.now) c.flag_of.ensures ∙ c.in_ok-kind.ensures.1

@@ -1,12 +1,10 @@
--- `request_reader::reader::read_install` meets its contract, test by test. Assumes nothing.
-use Rattle.request_reader.proofs.Choices.{tests}
+-- `request_reader::reader::read_install` meets its contract: the tests of its body refuse it, or it is read. Assumes nothing.
+use lib.Dec.{leb}
+use Rattle.request_reader.proofs.Choices.{handed_on, refused_too, goes_on}
 use Rattle.request_reader.proofs.reader.read_install.Goals as goal
 
-pub returns-then-n-lt30 : goal.returns-then-n-lt30
-returns-then-n-lt30 c = search tests
-
-pub returns-then-verdict-eq0 : goal.returns-then-verdict-eq0
-returns-then-verdict-eq0 c = search tests
+pub returns-in_err-fits : goal.returns-in_err-fits
+returns-in_err-fits c = rw (← c.body_length.ensures) (refused_too (leb 30 c.body_length.result) c.args.verdict c.fits.ensures c.in_err-fits.was (handed_on c.from_residual.ensures.1) _)
 
 pub returns : goal.returns
-returns c = search tests
+returns c = rw c.body_length.ensures at (goes_on (leb 30 c.body_length.result) c.args.verdict c.fits.ensures c.in_ok-fits.was c.install_fields.ensures)

@@ -1,20 +1,10 @@
--- `request_reader::reader::read_list` meets its contract, test by test. Assumes nothing.
-use Rattle.request_reader.proofs.Choices.{tests}
-use Rattle.request_reader.specs.Asking.{of_list}
+-- `request_reader::reader::read_list` meets its contract: the tests of its body refuse it, or it is read. Assumes nothing.
+use lib.Dec.{leb}
+use Rattle.request_reader.proofs.Choices.{handed_on, refused_too, goes_on}
 use Rattle.request_reader.proofs.reader.read_list.Goals as goal
 
-pub returns-then-n-lt3 : goal.returns-then-n-lt3
-unfolding of_list
-returns-then-n-lt3 c = search tests
-
-pub returns-then-count-gt-MOST_HASHES : goal.returns-then-count-gt-MOST_HASHES
-unfolding of_list
-returns-then-count-gt-MOST_HASHES c = search (tests, ← c.wide-count.ensures)
-
-pub returns-then-n-count : goal.returns-then-n-count
-unfolding of_list
-returns-then-n-count c = search (tests, ← c.wide-count.ensures)
+pub returns-in_err-fits : goal.returns-in_err-fits
+returns-in_err-fits c = rw (← c.body_length.ensures) (refused_too (leb 3 c.body_length.result) c.args.verdict c.fits.ensures c.in_err-fits.was (handed_on c.from_residual.ensures.1) _)
 
 pub returns : goal.returns
-unfolding of_list
-returns c = search (tests, ← c.wide-count.ensures)
+returns c = rw c.body_length.ensures at (goes_on (leb 3 c.body_length.result) c.args.verdict c.fits.ensures c.in_ok-fits.was c.list_fields.ensures)

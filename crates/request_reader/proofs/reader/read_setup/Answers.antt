@@ -1,9 +1,15 @@
--- `request_reader::reader::read_setup` meets its contract, test by test. Assumes nothing.
-use Rattle.request_reader.proofs.Choices.{tests}
+-- `request_reader::reader::read_setup` meets its contract: the tests of its body refuse it, or it is read. Assumes nothing.
+use Prim.Native.Nat.{ℕ}
+use mathlib.Core.Path.{ap, ◌∙◌}
+use Rattle.std.specs.Prelude.{Ok, None}
+use Rattle.request_reader.specs.declared.asked.Body.TheVariants.{Setup}
+use Rattle.request_reader.specs.Asking.{one_handle}
+use lib.Dec.{eqb}
+use Rattle.request_reader.proofs.Choices.{handed_on, refused_too, goes_on}
 use Rattle.request_reader.proofs.reader.read_setup.Goals as goal
 
-pub returns-then-n-ne12 : goal.returns-then-n-ne12
-returns-then-n-ne12 c = search tests
+pub returns-in_err-fits : goal.returns-in_err-fits
+returns-in_err-fits c = rw (← c.body_length.ensures) (refused_too (eqb c.body_length.result 12) c.args.verdict c.fits.ensures c.in_err-fits.was (handed_on c.from_residual.ensures.1) _)
 
 pub returns : goal.returns
-returns c = rw (← c.word_at-length.ensures) (search (tests, c.with_handle.ensures))
+returns c = rw (← c.body_length.ensures) (goes_on (eqb c.body_length.result 12) c.args.verdict c.fits.ensures c.in_ok-fits.was (ap Ok (c.with_handle.ensures ∙ ap (λ (n : ℕ). one_handle c.args.f.now None (Setup n)) c.word_at-length.ensures)))
