@@ -1,12 +1,12 @@
 -- A reply frame, written part by part at the start of a buffer; and each frame as the reply of an answer. Assumes nothing.
-use mathlib.Core.Path.{◌≡◌, refl, sym, ap, ap₂, ◌∙◌}
+use mathlib.Core.Path.{◌≡◌, refl, sym, ap, ◌∙◌}
 use mathlib.Core.List.{List, [], ◌∷◌, ◌++◌, append_assoc}
 use Prim.Native.Nat.{ℕ, ◌+◌, ◌*◌, ◌/◌, ◌%◌, ◌≤◌}
 use native.Mathlib.Omega.{arith}
 use lib.ListN.{length, drop, length-append}
-use Rattle.profile.specs.Bytes.{Bytes, part, word, word_bytes, over}
-use Rattle.profile.specs.Sizes.{slot_size, reply_room, most_payload, key_size, hash_size, most_hashes, key_at, count_at, hashes_at, payload_at}
-use Rattle.profile.specs.Slot.{Count, count_number, count_with, Slot}
+use Rattle.profile.specs.Bytes.{Bytes, part, word_bytes, over}
+use Rattle.profile.specs.Sizes.{slot_size, reply_room, most_payload, key_size, hash_size, most_hashes, key_at, hashes_at, payload_at}
+use Rattle.profile.specs.Slot.{Count, count_number, Slot}
 use Rattle.profile.specs.Table.{hash_count_of, kept_of, count_of, length_of, count_bytes, right_of}
 use Rattle.profile.specs.Frame.{Refusal, code, frame}
 use Rattle.profile.specs.Agent.{Given, the_right, the_key, deny, done, given_bit, write_given, reply_frame}
@@ -17,10 +17,6 @@ use Rattle.buffers.proofs.Overlays.{over_start, over_length, over_more}
 use Rattle.reply_writer.specs.Written.{head_of, info_of}
 
 -- ---- written part by part
--- a slot's count, by its bit and its number
-pub count_read : (s : Bytes) {b n : ℕ} {c : Count} → b ≡ kept_of s → n ≡ word count_at s → c ≡ count_with b n → c ≡ count_of s
-count_read s eb en e = e ∙ ap₂ count_with eb en
-
 -- count and hash count, byte by byte
 pub terms_are : (count : Count) (hashes : ℕ) {n high low shifted : ℕ} → n ≡ count_number count → high ≡ n / 256 → low ≡ n % 256 → shifted ≡ 16 * hashes → (high ∷ low ∷ shifted ∷ []) ≡ count_bytes count ++ ((16 * hashes) ∷ [])
 terms_are count hashes e h l s = rw (h, l, s, e)
