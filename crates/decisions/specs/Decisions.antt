@@ -1,41 +1,51 @@
 -- What is decided of a request on the record under its handle, before anything is changed.
-use Rattle.std.specs.Prelude.{Bool, true, false, if◌then◌else◌}
-use Rattle.profile.specs.Frame.{not_found, duplicate, unexpected, code}
+use Rattle.std.specs.Prelude.{◌≡◌, Bool, true, false, Option, Some, None, Result, Ok, Err, if◌then◌else◌}
+use Rattle.codes.specs.declared.refusal.Refusal.{Refusal}
+use Rattle.codes.specs.declared.refusal.Refusal.TheVariants.{HandleNotFound, UnexpectedRequest, DuplicateHandle}
 use Rattle.slots.specs.declared.place.Place.{Place}
 use Rattle.slots.specs.declared.place.Place.TheVariants.{Empty, Reserved, Enabled, Disabled}
-use Rattle.tables.specs.declared.lookup.Lookup.{Lookup}
-use Rattle.tables.specs.declared.lookup.Lookup.TheVariants.{Absent, At}
-use Rattle.decisions.specs.declared.decision.Takes.{Takes}
-use Rattle.decisions.specs.declared.decision.Decision.{Decision}
-use Rattle.decisions.specs.declared.decision.Decision.TheVariants.{Refuse, Take}
+use Rattle.tables.specs.declared.lookup.Record.{Record}
 
--- is the place one that is taken? No record is empty
-abbrev pub takes_place : Takes → Place → Bool
-takes_place w Empty = false
-takes_place w Reserved = w.reserved
-takes_place w Enabled = w.enabled
-takes_place w Disabled = w.disabled
+-- a test of places, by what it may return at each, says whether each is one of these
+abbrev pub Takes : (Place → Bool → Type 0) → (Place → Bool) → Type 0
+Takes test places = (p : Place) (b : Bool) → test p b → b ≡ places p
 
 -- PROFILE 4.2: 4 by the look-up; 6 by the place
-unfoldable pub decided : Takes → Lookup → Decision
-decided w Absent = Refuse (code not_found)
-decided w (At i p) = if takes_place w p then Take i p else Refuse (code unexpected)
+unfoldable pub decided : (Place → Bool) → Option Record → Result Record Refusal
+decided places None = Err HandleNotFound
+decided places (Some r) = if places r.place then Ok r else Err UnexpectedRequest
 
--- the places that the kinds take: 2 and 7; 3, 4 and 9; 5 and 6
-abbrev pub awaited : Takes
-awaited = record { reserved = true; enabled = false; disabled = false }
+-- the places that the kinds take: 2 and 7; 3, 4 and 9; 5 and 6. No record is empty
+abbrev pub awaited : Place → Bool
+awaited Empty = false
+awaited Reserved = true
+awaited Enabled = false
+awaited Disabled = false
 
-abbrev pub lendable : Takes
-lendable = record { reserved = false; enabled = true; disabled = false }
+abbrev pub lendable : Place → Bool
+lendable Empty = false
+lendable Reserved = false
+lendable Enabled = true
+lendable Disabled = false
 
-abbrev pub installed : Takes
-installed = record { reserved = false; enabled = true; disabled = true }
+abbrev pub installed : Place → Bool
+installed Empty = false
+installed Reserved = false
+installed Enabled = true
+installed Disabled = true
 
 -- and of these the one that kind 5 changes
-abbrev pub lent : Takes
-lent = record { reserved = false; enabled = false; disabled = true }
+abbrev pub lent : Place → Bool
+lent Empty = false
+lent Reserved = false
+lent Enabled = false
+lent Disabled = true
 
--- kinds 3 and 4: what was decided before, unless the new handle is in use, be it in the record's own slot
-unfoldable pub unless_used : Bool → Decision → Decision
-unless_used used (Refuse n) = Refuse n
-unless_used used (Take i p) = if used then Refuse (code duplicate) else Take i p
+-- what was decided before, unless a test of the record refuses it too
+unfoldable pub unless : (Record → Bool) → Refusal → Result Record Refusal → Result Record Refusal
+unless test x (Err e) = Err e
+unless test x (Ok r) = if test r then Err x else Ok r
+
+-- kinds 3 and 4: unless the new handle is in use, be it in the record's own slot
+abbrev pub unless_used : Bool → Result Record Refusal → Result Record Refusal
+unless_used used d = unless (λ r. used) DuplicateHandle d

@@ -8,7 +8,8 @@ use Rattle.profile.specs.Agent.{Answer, act, replied}
 use Rattle.tallies.specs.declared.update.Change.{Change}
 use Rattle.tallies.specs.Changes.{change_by}
 
--- a table and a reply buffer that passed the tests for 101, 102 and 103
+-- a table and a reply buffer that passed the tests for 101, 102 and 103. They are no one struct: each is lent apart and changed apart, and a
+-- fact that a struct kept of both would end with the first change
 pub record Ready (table buffer : Bytes) : Type 0 where
   pub whole : whole_slots table ≡ true
   pub well : well_table table ≡ true
