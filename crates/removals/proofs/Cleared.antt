@@ -2,7 +2,7 @@
 use Prim.Native.Nat.{ℕ}
 use mathlib.Core.Path.{◌≡◌, refl, ap}
 use mathlib.Core.List.{List}
-use mathlib.Core.Bool.{true, false≢true}
+use mathlib.Core.Bool.{Bool, true}
 use native.Mathlib.Omega.{arith}
 use lib.ListN.{set}
 use Rattle.profile.specs.Bytes.{Bytes}
@@ -17,28 +17,27 @@ use Rattle.changes.specs.Change.{slot_at}
 use Rattle.tallies.specs.declared.update.Change.{Change}
 use Rattle.tallies.specs.declared.update.Change.TheVariants.{Moved}
 use Rattle.tallies.specs.Changes.{change_in}
-use Rattle.decisions.specs.declared.decision.Takes.{Takes}
-use Rattle.decisions.specs.Decisions.{takes_place, awaited, installed}
+use Rattle.decisions.specs.Decisions.{awaited, installed}
 use Rattle.decisions.specs.Serving.{Serves, answer_to}
 use Rattle.decisions.proofs.Deciding.{Expects, Held, moved_from}
 use Rattle.removals.specs.Clearing.{clear_at}
 
-pub clear_expects : (w : Takes) (u : List Slot) → Expects w (clear_at w u)
+pub clear_expects : (w : Place → Bool) (u : List Slot) → Expects w (clear_at w u)
 clear_expects w u i e q = rw q
 
-module _ (w : Takes) (T h : Bytes) (i : ℕ) where
-  pub cleared : (o : Place) → Held T h i o × (takes_place w o ≡ true) → when_found (find h (slots_of T)) (clear_at w (slots_of T)) ≡ done nothing (set (slots_of T) i empty)
-  cleared Empty s = absurd (false≢true s.1)
+module _ (w : Place → Bool) (T h : Bytes) (i : ℕ) where
+  pub cleared : (o : Place) → Held T h i o × (w o ≡ true) → when_found (find h (slots_of T)) (clear_at w (slots_of T)) ≡ done nothing (set (slots_of T) i empty)
+  cleared Empty s = absurd (s.0.filled refl)
   cleared Reserved s = rw (s.0.found, s.1)
   cleared Enabled s = rw (s.0.found, s.1)
   cleared Disabled s = rw (s.0.found, s.1)
 
   -- the slot was counted at its place, and is empty then
-  pub clear_moves : (o : Place) → Held T h i o × (takes_place w o ≡ true) → (n : ℕ) → n ≡ length_of (slot_at T i) → Moved o n Empty 0 ≡ change_in (slots_of T) (set (slots_of T) i empty)
-  clear_moves Empty s n e = absurd (false≢true s.1)
-  clear_moves Reserved s n e = rw e (moved_from Reserved s.0 (λ q. omega (arith, ap place_number q)) empty (λ _ q. omega (arith, ap place_number q)) (λ q. omega (arith, q)))
-  clear_moves Enabled s n e = rw e (moved_from Enabled s.0 (λ q. omega (arith, ap place_number q)) empty (λ _ q. omega (arith, ap place_number q)) (λ q. omega (arith, q)))
-  clear_moves Disabled s n e = rw e (moved_from Disabled s.0 (λ q. omega (arith, ap place_number q)) empty (λ _ q. omega (arith, ap place_number q)) (λ q. omega (arith, q)))
+  pub clear_moves : (o : Place) → Held T h i o × (w o ≡ true) → (n : ℕ) → n ≡ length_of (slot_at T i) → Moved o n Empty 0 ≡ change_in (slots_of T) (set (slots_of T) i empty)
+  clear_moves Empty s n e = absurd (s.0.filled refl)
+  clear_moves Reserved s n e = rw e (moved_from Reserved s.0 empty (λ _ q. omega (arith, ap place_number q)) (λ q. omega (arith, q)))
+  clear_moves Enabled s n e = rw e (moved_from Enabled s.0 empty (λ _ q. omega (arith, ap place_number q)) (λ q. omega (arith, q)))
+  clear_moves Disabled s n e = rw e (moved_from Disabled s.0 empty (λ _ q. omega (arith, ap place_number q)) (λ q. omega (arith, q)))
 
 -- kind 6 takes a record that is installed, kind 7 one that is reserved
 module _ {T B T' B' : Bytes} {y : Change} (h : Bytes) where

@@ -1,46 +1,44 @@
--- `setups::install::install` meets its contract: refused as it was decided or for want of room, or the right stored. Assumes nothing.
+-- `setups::install::install` meets its contract: refused as it was decided, or the right stored. Assumes nothing.
 use Prim.Native.Nat.{◌+◌, ◌*◌}
 use mathlib.Core.Path.{ap, ◌∙◌}
 use native.Mathlib.Omega.{arith}
+use borrow.Author.Rules.{rules}
 use Rattle.profile.specs.Sizes.{hash_size}
 use Rattle.profile.specs.Table.{length_of}
 use Rattle.profile.proofs.Strings.{length_part}
-use Rattle.changes.specs.Change.{right_from}
 use Rattle.octets.proofs.ByteBounds.{below_256}
+use Rattle.changes.specs.Change.{right_from}
 use Rattle.decisions.proofs.Answers.{refused_serves, done_serves}
-use Rattle.decisions.proofs.Deciding.{chosen_reserved}
-use Rattle.setups.proofs.Outcomes.{install_refused, too_long, installs, install_moves}
-use borrow.Author.Rules.{rules}
+use Rattle.setups.proofs.Outcomes.{install_refused, to_fill, installs, install_moves}
 use Rattle.setups.proofs.install.install.Goals as goal
 
 pub slot_at-requires : goal.slot_at-requires
-slot_at-requires c = (let bytes = below_256 c.args.table.now (search rules) in
-    chosen_reserved _ _ _ bytes c.requires.0 _ c.slot_under.ensures _ _ c.in-Take.is).has.inside
-
-pub returns-then-room-size : goal.returns-then-room-size
-returns-then-room-size c =
-    let room = (c.word_at-room.ensures ∙ ap length_of (c.slot_at.ensures.0 ∙ (let bytes = below_256 c.args.table.now (search rules) in
-    chosen_reserved _ _ _ bytes c.requires.0 _ c.slot_under.ensures _ _ c.in-Take.is).lent)) in
-    let size = (length_part (c.args.at + hash_size * c.args.hashes) c.args.size c.args.frame.now (omega (arith, c.requires.1.inside))) in
-    refused_serves (too_long _ _ (right_from c.args.key c.args.count c.args.hashes c.args.size c.args.frame.now c.args.at) (let bytes = below_256 c.args.table.now (search rules) in
-    chosen_reserved _ _ _ bytes c.requires.0 _ c.slot_under.ensures _ _ c.in-Take.is) (omega (arith, size, room, c.if-room-size.true))) c.reply_status-then-room-size.ensures
+slot_at-requires c =
+    let a = c.args in
+    (to_fill _ _ _ (below_256 a.table.now (search rules)) c.requires.0 a.size _ c.slot_to_fill.ensures _ c.in-Ok.is).has.inside
 
 pub store_right-requires : goal.store_right-requires
 store_right-requires c =
+    let a = c.args in
     let sent = c.requires.1 in
-    let w = (let bytes = below_256 c.args.table.now (search rules) in
-    chosen_reserved _ _ _ bytes c.requires.0 _ c.slot_under.ensures _ _ c.in-Take.is) in
+    let w = to_fill _ _ _ (below_256 a.table.now (search rules)) c.requires.0 a.size _ c.slot_to_fill.ensures _ c.in-Ok.is in
     (w.has, w.place_is, sent.few, sent.short, sent.inside)
 
-pub returns-in-Refuse : goal.returns-in-Refuse
-returns-in-Refuse c = refused_serves (install_refused _ c.args.h (right_from c.args.key c.args.count c.args.hashes c.args.size c.args.frame.now c.args.at) _ c.slot_under.ensures _ c.in-Refuse.is) c.reply_status.ensures
+pub returns-in-Ok : goal.returns-in-Ok
+returns-in-Ok c =
+    let a = c.args in
+    let bytes = below_256 a.table.now (search rules) in
+    let x = right_from a.key a.count a.hashes a.size a.frame.now a.at in
+    let sized = length_part (a.at + hash_size * a.hashes) a.size a.frame.now (omega (arith, c.requires.1.inside)) in
+    let w = to_fill _ _ _ bytes c.requires.0 a.size _ c.slot_to_fill.ensures _ c.in-Ok.is in
+    done_serves (installs _ _ _ bytes c.requires.0 a.size _ c.slot_to_fill.ensures x sized _ c.in-Ok.is) c.store_right.ensures
+    (rw c.number.ensures.is at c.reply_status.ensures)
+    (install_moves _ _ _ bytes c.requires.0 a.size _ c.slot_to_fill.ensures x sized _ c.in-Ok.is _ (c.word_at-room.ensures ∙ ap length_of (c.slot_at.ensures.0 ∙ w.lent)))
 
-pub returns-else-room-size : goal.returns-else-room-size
-returns-else-room-size c =
-    let room = (c.word_at-room.ensures ∙ ap length_of (c.slot_at.ensures.0 ∙ (let bytes = below_256 c.args.table.now (search rules) in
-    chosen_reserved _ _ _ bytes c.requires.0 _ c.slot_under.ensures _ _ c.in-Take.is).lent)) in
-    let size = (length_part (c.args.at + hash_size * c.args.hashes) c.args.size c.args.frame.now (omega (arith, c.requires.1.inside))) in
-    done_serves (installs _ _ (right_from c.args.key c.args.count c.args.hashes c.args.size c.args.frame.now c.args.at) (let bytes = below_256 c.args.table.now (search rules) in
-    chosen_reserved _ _ _ bytes c.requires.0 _ c.slot_under.ensures _ _ c.in-Take.is) (omega (arith, size, room, c.if-room-size.false))) c.store_right.ensures c.reply_status-in-Take.ensures
-    (install_moves _ _ (right_from c.args.key c.args.count c.args.hashes c.args.size c.args.frame.now c.args.at) (let bytes = below_256 c.args.table.now (search rules) in
-    chosen_reserved _ _ _ bytes c.requires.0 _ c.slot_under.ensures _ _ c.in-Take.is) _ _ room size)
+pub returns-in-Err : goal.returns-in-Err
+returns-in-Err c =
+    let a = c.args in
+    let x = right_from a.key a.count a.hashes a.size a.frame.now a.at in
+    let sized = length_part (a.at + hash_size * a.hashes) a.size a.frame.now (omega (arith, c.requires.1.inside)) in
+    refused_serves _ (install_refused _ _ _ (below_256 a.table.now (search rules)) c.requires.0 a.size _ c.slot_to_fill.ensures x sized _ c.in-Err.is)
+    (rw c.number-in-Err.ensures.is at c.reply_status-in-Err.ensures)
