@@ -5,13 +5,13 @@ use mathlib.Core.List.{List, [], ◌∷◌, ◌++◌, append-nil}
 use mathlib.Core.Bool.{true, false}
 use native.Mathlib.Omega.{arith}
 use lib.Dec.{ltb}
-use lib.ListN.{length, take, length-append}
+use lib.ListN.{length, get_or, take, length-append}
 use lib.Seq.{take-nil, take_all, take-append-le}
 use borrow.Author.Tests.{ltb-true, ltb-false}
 use Rattle.std.specs.Prelude.{if◌then◌else◌}
 use Rattle.profile.specs.Bytes.{Bytes, part, Each}
 use Rattle.profile.specs.Sizes.{slot_size, handle_size, most_hashes, handle_at}
-use Rattle.profile.specs.Table.{hash_count_of, handle_of, unpack, slot_count, slots_of}
+use Rattle.profile.specs.Table.{hash_count_of, handle_of, unpack, slot_count, slot_bytes, slots_of}
 use Rattle.profile.specs.Agent.{listed_slot, listed}
 use Rattle.profile.proofs.Logic.{if_cases}
 use Rattle.profile.proofs.Strings.{length_part}
@@ -19,7 +19,7 @@ use Rattle.profile.proofs.WellFormed.{few_slots}
 use Rattle.buffers.specs.Over.{over_at}
 use Rattle.list_replies.specs.Listed.{holding}
 use Rattle.list_replies.proofs.Growing.{hold_none, hold_more}
-use Rattle.tables.proofs.SlotParts.{length_slots}
+use Rattle.tables.proofs.SlotParts.{length_slots, get_d_slots}
 use Rattle.slots.proofs.WellSlots.{few_hashes}
 use Rattle.tables.proofs.WellTables.{slot_well}
 use Rattle.decisions.specs.Serving.{Ready}
@@ -28,6 +28,13 @@ use Rattle.queries.proofs.ListedSlots.{listed_next, listed_whole, each_passed}
 -- ---- a slot of a well-formed table
 pub few_in_slot : (t b : Bytes) → Ready t b → (i : ℕ) → i < slot_count t → (s : Bytes) → s ≡ part (slot_size * i) slot_size t → hash_count_of s ≤ most_hashes
 few_in_slot t b ready i h s e = few_hashes s (rw e (slot_well t i ready.well h))
+
+-- slot i of those that are lent of the table at once
+pub lent_part : (t : Bytes) (ss : List Bytes) → (ss ≡ slot_bytes t) × (length ss ≡ slot_count t) → (i : ℕ) → i < length ss
+    → (i < slot_count t) × (get_or ss i [] ≡ part (slot_size * i) slot_size t)
+lent_part t ss lent i h =
+    let below : i < slot_count t = omega (arith, lent.1, h) in
+    (below, rw lent.0 (get_d_slots t i below))
 
 -- ---- one handle more, where `most` fit
 pub hold_next : (hs : List Bytes) (k : ℕ) (h b : Bytes) (most : ℕ) → Each handle_size hs → length hs ≡ k → length h ≡ handle_size → 15 + handle_size * k ≤ length b

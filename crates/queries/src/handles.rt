@@ -1,6 +1,6 @@
 // Kind 8: the handles of the list go straight from their slots into the reply.
 ghost use Rattle.std.specs.Prelude.{◌≡◌, ◌+◌, ◌*◌, ◌≤◌, ltb, length, take, if◌then◌else◌};
-ghost use Rattle.profile.specs.Sizes.{handle_size, most_hashes, handle_at};
+ghost use Rattle.profile.specs.Sizes.{handle_size};
 ghost use Rattle.profile.specs.Table.{handle_of, slots_of};
 ghost use Rattle.profile.specs.Agent.{listed};
 ghost use Rattle.buffers.specs.Over.{over_at};
@@ -8,7 +8,8 @@ ghost use Rattle.list_replies.specs.Listed.{holding};
 ghost use Rattle.decisions.specs.Serving.{Ready};
 ghost use Rattle.queries.specs.Query.{most_of};
 
-use profile::sizes::{HANDLE_BYTES, HASH_BYTES, MOST_HASHES, MOST_SLOTS, SLOT_BYTES};
+use profile::sizes::{HANDLE_BYTES, HASH_BYTES, MOST_SLOTS};
+use slots::Slot;
 
 // How many handles a reply may have (PROFILE 5.8). A limit of 0 is none, and then a handle for each slot is enough; any other
 // limit counts the bytes of handles, which go in whole.
@@ -18,12 +19,12 @@ pub(crate) fn most_handles(limit: u16) -> usize
     if limit == 0 {
         return MOST_SLOTS;
     }
-    (limit as usize) / HANDLE_BYTES
+    usize::from(limit) / HANDLE_BYTES
 }
 
 // A slot's handle goes after k others, or is left off where they are as many as fit.
-fn put_next(reply: &mut [u8], slot: &[u8], k: usize, most: usize)
-    requires { (15 + handle_size * k ≤ length reply.old) × (handle_at + handle_size ≤ length slot.now) }
+fn put_next(reply: &mut [u8], slot: &Slot, k: usize, most: usize)
+    requires { 15 + handle_size * k ≤ length reply.old }
     ensures { reply.new ≡ (if ltb k most then over_at (5 + handle_size * k) (handle_of slot.now) reply.old else reply.old) }
 {
     if k < most {
@@ -35,23 +36,18 @@ fn put_next(reply: &mut [u8], slot: &[u8], k: usize, most: usize)
 pub(crate) fn put_handles(
     table: &[u8],
     reply: &mut [u8],
-    query: &[[u8; HASH_BYTES]; MOST_HASHES],
-    hashes: usize,
+    query: &[[u8; HASH_BYTES]],
     most: usize,
 ) -> usize
-    requires { Ready table.now reply.old × (hashes ≤ most_hashes) }
-    ensures { (result ≡ length (listed (take hashes query.now) (slots_of table.now))) × (reply.new ≡ holding (take most (listed (take hashes query.now) (slots_of table.now))) reply.old) }
+    requires { Ready table.now reply.old }
+    ensures { (result ≡ length (listed query.now (slots_of table.now))) × (reply.new ≡ holding (take most (listed query.now (slots_of table.now))) reply.old) }
 {
-    let n = table.len() / SLOT_BYTES;
     let mut found = 0;
-    let mut i = 0;
-    while i < n {
-        let slot = tables::part::slot_at(table, i);
-        if hashes::is_listed(slot, &query[..hashes]) {
+    for slot in tables::part::slots_in(table) {
+        if hashes::is_listed(slot, query) {
             put_next(reply, slot, found, most);
             found += 1;
         }
-        i += 1;
     }
     found
 }

@@ -8,8 +8,9 @@ ghost use Rattle.profile.specs.Request.{list, info};
 ghost use Rattle.decisions.specs.Serving.{Ready};
 ghost use Rattle.queries.specs.Query.{reply_to};
 
-use decisions::decision::{Decision, LENDABLE};
+use codes::kind::Kind;
 use profile::sizes::HANDLE_BYTES;
+use slots::place::Place;
 
 mod handles; // handles.rt: the handles of kind 8, slot by slot
 
@@ -27,7 +28,7 @@ pub fn handle_list(
 {
     let query = octets::arrays::hashes_at(frame, at, hashes);
     let most = handles::most_handles(limit);
-    let found = handles::put_handles(table, reply, &query, hashes, most);
+    let found = handles::put_handles(table, reply, &query[..hashes], most);
     if found <= most {
         list_replies::close_list(reply, found, false);
     } else {
@@ -40,11 +41,13 @@ pub fn info(table: &[u8], reply: &mut [u8], h: [u8; HANDLE_BYTES])
     requires { Ready table.now reply.old }
     ensures { reply.new ≡ reply_to 9 (info h) table.now reply.old }
 {
-    match decisions::decision::slot_under(table, h, LENDABLE) {
-        Decision::Refuse(status) => reply_writer::writer::reply_status(reply, 9, status),
-        Decision::Take(i, _) => reply_writer::writer::reply_info(
+    match decisions::decision::slot_under(table, h, |p| matches!(p, Place::Enabled)) {
+        Ok(record) => reply_writer::writer::reply_info(
             reply,
-            tables::part::slot_at(table, i),
+            tables::part::slot_at(table, record.at),
         ),
+        Err(refusal) => {
+            reply_writer::writer::reply_status(reply, Kind::Info.number(), Err(refusal))
+        }
     }
 }

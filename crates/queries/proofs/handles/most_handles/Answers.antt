@@ -6,4 +6,4 @@ pub returns-then-limit-eq0 : goal.returns-then-limit-eq0
 returns-then-limit-eq0 c = simp (eq-eqb _ _ c.if-limit-eq0.true)
 
 pub returns : goal.returns
-returns c = simp (ne_eqb _ _ c.if-limit-eq0.false)
+returns c = rw c.from.ensures (simp (ne_eqb _ _ c.if-limit-eq0.false))
