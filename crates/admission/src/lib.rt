@@ -2,33 +2,32 @@
 #![tactic(auto)]
 
 ghost use Rattle.std.specs.Prelude.{◌≡◌};
+ghost use Rattle.codes.specs.Codes.{number_in};
 ghost use Rattle.admission.specs.Tests.{tests_of};
 
+use codes::fault::Fault;
 use profile::Tally;
-use profile::number::{
-    DONE, REPLY_BUFFER_SHORT, START_OUTSIDE, TABLE_LENGTH, TABLE_NOT_WELL_FORMED, TALLY_DIFFERS,
-};
 use profile::sizes::{REPLY_ROOM, SLOT_BYTES};
 
-// 101, 102, 105, 103 and 106, tested in this order; 0 where none of them is given (PROFILE 4.1).
+// 101, 102, 105, 103 and 106, tested in this order (PROFILE 4.1).
 #[inline(never)]
-pub fn tested(table: &[u8], tally: Tally, start: usize, reply: &[u8]) -> u16
-    ensures { result ≡ tests_of table.now tally start reply.now }
+pub fn tested(table: &[u8], tally: Tally, start: usize, reply: &[u8]) -> Result<(), Fault>
+    ensures { number_in result ≡ tests_of table.now tally start reply.now }
 {
     if reply.len() < REPLY_ROOM {
-        return REPLY_BUFFER_SHORT;
+        return Err(Fault::ReplyBufferShort);
     }
     if !tables::part::whole_slots(table) {
-        return TABLE_LENGTH;
+        return Err(Fault::TableLength);
     }
     if table.len() / SLOT_BYTES <= start {
-        return START_OUTSIDE;
+        return Err(Fault::StartOutside);
     }
     if !tables::table::well_table(table) {
-        return TABLE_NOT_WELL_FORMED;
+        return Err(Fault::TableNotWellFormed);
     }
     if !tallies::count::same(tally, tallies::count::tally_of(table)) {
-        return TALLY_DIFFERS;
+        return Err(Fault::TallyDiffers);
     }
-    DONE
+    Ok(())
 }

@@ -7,6 +7,9 @@ use borrow.Author.Tests.{ne_eqb}
 use lib.Dec.{eqb, leb, ltb}
 use lib.ListN.{length}
 use Rattle.std.specs.Prelude.{if◌then◌else◌}
+use Rattle.codes.specs.declared.fault.Fault.{Fault}
+use Rattle.codes.specs.declared.fault.Fault.TheVariants.{ReplyBufferShort, TableLength, TableNotWellFormed, NoFrame, StartOutside, TallyDiffers, ReportBufferShort, TotalOutside, WriterBufferShort, WriterFields, NoReply}
+use Rattle.codes.specs.Codes.{fault_number}
 use Rattle.profile.specs.Bytes.{Bytes}
 use Rattle.profile.specs.Table.{slot_count, whole_slots, well_table}
 use Rattle.profile.specs.Tally.{Tally, tally_in, same_tally}
@@ -58,6 +61,20 @@ passed table tally start buffer =
   where
     P : ℕ → Type 0
     P n = n ≡ 0 → Passed table tally start buffer
+
+-- ---- no fault has the number 0
+pub not_0 : (f : Fault) → fault_number f ≡ 0 → ⊥
+not_0 ReplyBufferShort e = omega (arith, e)
+not_0 TableLength e = omega (arith, e)
+not_0 TableNotWellFormed e = omega (arith, e)
+not_0 NoFrame e = omega (arith, e)
+not_0 StartOutside e = omega (arith, e)
+not_0 TallyDiffers e = omega (arith, e)
+not_0 ReportBufferShort e = omega (arith, e)
+not_0 TotalOutside e = omega (arith, e)
+not_0 WriterBufferShort e = omega (arith, e)
+not_0 WriterFields e = omega (arith, e)
+not_0 NoReply e = omega (arith, e)
 
 -- ---- the call, outcome by outcome
 module _ (table : Bytes) (tally : Tally) (start : ℕ) (frame buffer : Bytes) where

@@ -6,13 +6,6 @@ use Rattle.profile.specs.Tally.{tally_in}
 use Rattle.profile.specs.Frame.{kind_number}
 use Rattle.profile.specs.Request.{Request, retrieve, rek, read_request}
 use Rattle.profile.specs.Agent.{first_empty_from, obey, on_bytes}
-use Rattle.request_reader.specs.declared.asked.Why.{Why}
-use Rattle.request_reader.specs.declared.asked.Why.TheVariants.{NoFrame}
-use Rattle.request_reader.specs.declared.asked.Body.{Body}
-use Rattle.request_reader.specs.declared.asked.Ask.{Ask}
-use Rattle.request_reader.specs.declared.asked.Ask.TheVariants.{No, Yes}
-use Rattle.request_reader.specs.declared.asked.Asked.{Asked}
-use Rattle.request_reader.specs.Answer.{Answers}
 use Rattle.tallies.specs.declared.update.Change.{Change}
 use Rattle.tallies.specs.Changes.{change_in, updated, Updates}
 use Rattle.serving.specs.Call.{outcome, call_of}
@@ -20,16 +13,6 @@ use Rattle.serving.specs.Call.{outcome, call_of}
 -- kinds 3 and 4, by their number
 abbrev pub lends_by : ℕ → Bytes → Bytes → Request
 lends_by kind h k = if eqb kind 3 then retrieve h k else rek h k
-
--- why an answer is no request
-abbrev pub why_of : Ask → Why
-why_of (No w) = w
-why_of (Yes b) = NoFrame
-
--- the frame is read as a request with this body
-pub record Asks (f : Bytes) (r : Asked) (b : Body) : Type 0 where
-  pub answers : Answers f r
-  pub yes : r.ask ≡ Yes b
 
 -- what is done with a frame on a well-formed table: number, reply buffer and table are the profile's, and so is the tally that follows from the change, which is
 -- the one from the slots before to those after, and can be taken into the tally
