@@ -1,4 +1,2 @@
-pub mod Fitting
-pub mod Bounds
 pub mod Telling
 pub mod Outcomes

@@ -1,12 +1,9 @@
 -- What a change of the slots says of a return, and the values of the crate's types in the profile's words.
-use Rattle.std.specs.Prelude.{ℕ, ℤ}
-use Rattle.profile.specs.declared.Count.TheVariants.{NoneKept, Kept}
+use Rattle.std.specs.Prelude.{ℕ, ℤ, Option, None, Some}
 use Rattle.profile.specs.Agent.{Outcome}
 use Rattle.profile.specs.Total.{Return, no_return, returned, Totals, totals_with, Totalled}
 use Rattle.tallies.specs.declared.update.Change.{Change}
 use Rattle.tallies.specs.declared.update.Change.TheVariants.{Same, Moved, Returned}
-use Rattle.totals.specs.declared.change.Counts.{Counts}
-use Rattle.totals.specs.declared.change.Counts.TheVariants.{NotBoth, Both}
 use Rattle.totals.specs.declared.total.Added.{Added}
 
 -- PROFILE 4.4: a right was returned where a slot came from disabled to enabled
@@ -15,12 +12,12 @@ return_said Same = no_return
 return_said (Moved p m q n) = no_return
 return_said (Returned m a n b) = returned a b
 
--- both counts of a return that is counted
-abbrev pub counts_of : Return → Counts
-counts_of no_return = NotBoth
-counts_of (returned NoneKept sent) = NotBoth
-counts_of (returned (Kept a) NoneKept) = NotBoth
-counts_of (returned (Kept a) (Kept b)) = Both a b
+-- both counts of a return that is counted: the one stored, then the one sent
+abbrev pub counts_of : Return → Option (ℕ × ℕ)
+counts_of no_return = None
+counts_of (returned None sent) = None
+counts_of (returned (Some a) None) = None
+counts_of (returned (Some a) (Some b)) = Some (a, b)
 
 -- PROFILE 4.5: total and returns
 abbrev pub totals_in : Added → Totals

@@ -3,7 +3,6 @@ ghost use Rattle.std.specs.Prelude.{◌≡◌, true};
 ghost use Rattle.profile.specs.Total.{change, totals_with, totals_hold, with_return};
 ghost use Rattle.totals.specs.Returns.{return_said, totals_in};
 
-use crate::change::Counts;
 use profile::sizes::{MOST_CHANGE, MOST_RETURNS};
 use tallies::update::Change;
 
@@ -16,14 +15,13 @@ pub struct Added {
 }
 
 // Whether there is room for one more return, and the total can be the sum of so many changes: at most 65,535 for each, either way.
-#[tactic(auto, using(crate::proofs::Bounds::too_many))]
 pub fn holds(total: i32, returns: u16) -> bool
     ensures { result ≡ totals_hold (totals_with total returns) }
 {
     if MOST_RETURNS <= returns {
         return false;
     }
-    let most = (returns as i32) * MOST_CHANGE;
+    let most = i32::from(returns) * MOST_CHANGE;
     (-most <= total) & (total <= most)
 }
 
@@ -33,10 +31,10 @@ pub fn with_return(total: i32, returns: u16, told: Change) -> Added
     ensures sums { totals_in result ≡ with_return (return_said told) (totals_with total returns) }
     ensures says { result.change ≡ change (return_said told) }
 {
-    let Counts::Both(stored, sent) = crate::change::counts_in(told) else {
+    let Some((stored, sent)) = crate::change::counts_in(told) else {
         return Added {
-            total: total,
-            returns: returns,
+            total,
+            returns,
             change: 0,
         };
     };

@@ -4,12 +4,11 @@ use mathlib.Core.Path.{◌≡◌, sym, ap, ◌∙◌}
 use borrow.Author.Rules.{rules}
 use lib.IntN.{ℤ}
 use mir.Syntax.{w32}
-use mir.Val.{SFits, to_z, of_z}
+use mir.Val.{to_z, of_z}
 use mir.Facts.{to_z-of_z}
-use Rattle.profile.specs.Total.{totals_with, totals_hold, with_return}
+use Rattle.profile.specs.Total.{totals_with, totals_hold}
 use Rattle.serving.specs.Call.{call_of}
-use Rattle.totals.specs.Returns.{return_said}
-use Rattle.totals.proofs.Outcomes.{given_108, with_totals}
+use Rattle.totals.proofs.Outcomes.{given_108}
 use Rattle.totals.proofs.call_totalling.Goals as goal
 
 pub returns-then-not-holds : goal.returns-then-not-holds
