@@ -10,7 +10,7 @@ use lib.Seq.{length-take-le}
 use Rattle.profile.specs.Bytes.{Bytes, part, pieces}
 use Rattle.profile.specs.Slot.{Slot, empty, taken, in_use, distinct}
 use Rattle.profile.specs.Table.{place_of, unpack, well_slot, slot_count, slot_bytes, slots_of, well_table}
-use Rattle.profile.specs.Salvage.{finding_byte, judge}
+use Rattle.profile.specs.Salvage.{kept, damaged, repeated, judge}
 use Rattle.profile.proofs.WholeSlots.{slots_joined}
 use Rattle.slots.proofs.Pieces.{pieces_within}
 use Rattle.slots.proofs.Unpacking.{unpack_empty, unpack_taken}
@@ -55,15 +55,15 @@ module _ (t : Bytes) (i : ℕ) (h : i < slot_count t) (s : Bytes) (e : s ≡ par
   slot_is : get_or (slot_bytes t) i [] ≡ s
   slot_is = get_d_slots t i h ∙ sym e
 
-  pub finds_damage : well_slot s ≡ false → 1 ≡ finding_byte (judge (take i (slots_of t)) (get_or (slot_bytes t) i []))
+  pub finds_damage : well_slot s ≡ false → damaged ≡ judge (take i (slots_of t)) (get_or (slot_bytes t) i [])
   finds_damage w = rw (slot_is, w)
 
-  pub finds_none : well_slot s ≡ true → place_of s ≡ 0 → 0 ≡ finding_byte (judge (take i (slots_of t)) (get_or (slot_bytes t) i []))
+  pub finds_none : well_slot s ≡ true → place_of s ≡ 0 → kept ≡ judge (take i (slots_of t)) (get_or (slot_bytes t) i [])
   finds_none w p = rw (slot_is, w, unpack_empty s p)
 
   module _ (w : well_slot s ≡ true) (p : place_of s ≡ 0 → ⊥) (k : Bytes) (k-is : k ≡ part 1 10 s) where
-    pub finds_again : in_use k (slots_of (take (4288 * i) t)) ≡ true → 2 ≡ finding_byte (judge (take i (slots_of t)) (get_or (slot_bytes t) i []))
+    pub finds_again : in_use k (slots_of (take (4288 * i) t)) ≡ true → repeated ≡ judge (take i (slots_of t)) (get_or (slot_bytes t) i [])
     finds_again u = rw (slot_is, w, (unpack_taken s p).1, ← k-is, ← slots_below t i h, u)
 
-    pub finds_once : in_use k (slots_of (take (4288 * i) t)) ≡ false → 0 ≡ finding_byte (judge (take i (slots_of t)) (get_or (slot_bytes t) i []))
+    pub finds_once : in_use k (slots_of (take (4288 * i) t)) ≡ false → kept ≡ judge (take i (slots_of t)) (get_or (slot_bytes t) i [])
     finds_once u = rw (slot_is, w, (unpack_taken s p).1, ← k-is, ← slots_below t i h, u)

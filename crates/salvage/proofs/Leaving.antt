@@ -11,7 +11,7 @@ use lib.Seq.{take_all}
 use Rattle.profile.specs.Bytes.{Bytes, joined, Each}
 use Rattle.profile.specs.Slot.{Slot, empty, taken, named, in_use}
 use Rattle.profile.specs.Table.{unpack, slot_count, slot_bytes, slots_of, whole_slots}
-use Rattle.profile.specs.Salvage.{Finding, finding_byte, mended, repeats, judge, findings, left_by, left_slots, findings_of, left_of}
+use Rattle.profile.specs.Salvage.{Finding, mended, repeats, judge, findings, left_by, left_slots, findings_of, left_of}
 use Rattle.profile.proofs.Logic.{same_eq}
 use Rattle.profile.proofs.Strings.{length_each, joined_pieces}
 use Rattle.profile.proofs.WholeSlots.{slots_joined, size, cut}
@@ -147,12 +147,12 @@ module _ (t : Bytes) (whole : whole_slots t ≡ true) where
     slot_now : get_or (slot_bytes (settled_to i t)) i [] ≡ get_or (slot_bytes t) i []
     slot_now = ap (λ (ps : List Bytes). get_or ps i []) (slots_now i) ∙ next_left i [] (slot_bytes t)
 
-    module _ (v : Bytes) (now-is : v ≡ settled_to i t) (found : ℕ) (u : Bytes) (s : Settled i v found u) where
+    module _ (v : Bytes) (now-is : v ≡ settled_to i t) (found : Finding) (u : Bytes) (s : Settled i v found u) where
       settled : Settled i (settled_to i t) found u
       settled = rw now-is at s
 
-      pub found_byte : found ≡ finding_byte (finding_at i t)
-      found_byte = settled.byte_is ∙ ap finding_byte found_now
+      pub found_is : found ≡ finding_at i t
+      found_is = settled.found_is ∙ found_now
 
       pub settled_more : u ≡ settled_to (i + 1) t
       unfolding settled_to finding_at

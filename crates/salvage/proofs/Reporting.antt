@@ -1,17 +1,14 @@
 -- The report and the number, of which the first i slots are in. Assumes nothing.
 use Prim.Native.Nat.{ℕ, zero, suc, ◌+◌, ◌≤◌, ◌<◌}
 use mathlib.Core.Path.{◌≡◌, refl, sym, ap, ◌∙◌}
-use mathlib.Core.List.{List, [], ◌∷◌, ◌++◌, map}
+use mathlib.Core.List.{List, [], ◌∷◌, ◌++◌, map, append-nil}
 use mathlib.Core.Option.{some, some-injective}
 use native.Mathlib.Omega.{arith}
 use native.Mathlib.Nat.{le_of_suc-le-suc, not-suc-le-zero}
 use native.Mathlib.Numerals.{add-one}
-use lib.Dec.{eqb}
-use mathlib.Core.Bool.{true≢false}
-use Rattle.std.specs.Prelude.{if◌then◌else◌}
-use Rattle.profile.proofs.Logic.{if_cases, eqb_eq, eqb_true}
-use lib.ListN.{length, get_or, get_elem?, take, drop, set}
-use lib.Seq.{take_all}
+use lib.ListN.{length, get_or, get_elem?, take, drop, set, length-map}
+use lib.Seq.{take_all, length-take-le}
+use Rattle.std.proofs.lemmas.List.{drop_all}
 use Rattle.profile.specs.Bytes.{Bytes, over}
 use Rattle.profile.specs.Table.{slot_count, slot_bytes}
 use Rattle.profile.specs.Salvage.{Finding, kept, damaged, repeated, finding_byte, cleared, findings_of, report_of}
@@ -53,16 +50,6 @@ take_cleared zero (g ∷ fs) f e = ap (λ (x : Finding). cleared (x ∷ [])) (so
 take_cleared (suc i) (kept ∷ fs) f e = take_cleared i fs f e
 take_cleared (suc i) (damaged ∷ fs) f e = omega (arith, take_cleared i fs f e)
 take_cleared (suc i) (repeated ∷ fs) f e = omega (arith, take_cleared i fs f e)
-
-one_kept : (f : Finding) → finding_byte f ≡ 0 → cleared (f ∷ []) ≡ 0
-one_kept kept e = refl
-one_kept damaged e = absurd (omega (arith, e))
-one_kept repeated e = absurd (omega (arith, e))
-
-one_other : (f : Finding) → (finding_byte f ≡ 0 → ⊥) → cleared (f ∷ []) ≡ 1
-one_other kept n = absurd (n refl)
-one_other damaged n = refl
-one_other repeated n = refl
 
 few_taken : (i : ℕ) (fs : List Finding) → cleared (take i fs) ≤ i
 few_taken zero fs = omega arith
@@ -109,28 +96,37 @@ module _ (t : Bytes) where
     unfolding findings_of finding_at
     found_at = finding_at_lem i [] (slot_bytes t) (get_or (slot_bytes t) i []) (some_at (slot_bytes t) i (rw (length_bytes t) h))
 
-    pub reported_more : (r : Bytes) (found : ℕ) → i < length r → found ≡ finding_byte (finding_at i t) → set (reported_to i t r) i found ≡ reported_to (i + 1) t r
+    pub reported_more : (r : Bytes) (f : Finding) (b : ℕ) → i < length r → f ≡ finding_at i t → b ≡ finding_byte f → set (reported_to i t r) i b ≡ reported_to (i + 1) t r
     unfolding reported_to
-    reported_more r found k e = rw (e, add-one) (set_write_to i (findings_of t) r (finding_at i t) found_at k)
+    reported_more r f b k e told = rw (told, e, add-one) (set_write_to i (findings_of t) r (finding_at i t) found_at k)
 
-    pub cleared_same : (found : ℕ) → found ≡ finding_byte (finding_at i t) → found ≡ 0 → cleared_to (i + 1) t ≡ cleared_to i t
+    pub cleared_next : (f : Finding) (n m : ℕ) → f ≡ finding_at i t → n ≡ cleared_to i t → m ≡ n + cleared (f ∷ []) → m ≡ cleared_to (i + 1) t
     unfolding cleared_to
-    cleared_same found e z = rw (add-one i) (omega (arith, take_cleared i (findings_of t) (finding_at i t) found_at, one_kept (finding_at i t) (sym e ∙ z)))
+    cleared_next f n m e at p =
+        p ∙ rw (at, e, add-one i) (sym (take_cleared i (findings_of t) (finding_at i t) found_at))
 
-    pub cleared_more : (found : ℕ) → found ≡ finding_byte (finding_at i t) → (found ≡ 0 → ⊥) → cleared_to (i + 1) t ≡ cleared_to i t + 1
-    unfolding cleared_to
-    cleared_more found e n = rw (add-one i) (omega (arith, take_cleared i (findings_of t) (finding_at i t) found_at, one_other (finding_at i t) (λ z. n (e ∙ z))))
+  -- the front of the report buffer has a byte for each slot
+  module _ (r : Bytes) (i : ℕ) (room : slot_count t ≤ length r) where
+    front : length (take (slot_count t) r) ≡ slot_count t
+    front = length-take-le (slot_count t) r room
 
-    pub cleared_next : (found n m : ℕ) → found ≡ finding_byte (finding_at i t) → n ≡ cleared_to i t → m ≡ (if eqb found 0 then n else n + 1) → m ≡ cleared_to (i + 1) t
-    cleared_next found n m e at p =
-        p
-        ∙ if_cases (λ (x : ℕ). x ≡ cleared_to (i + 1) t) (eqb found 0)
-        (λ q. at ∙ sym (cleared_same found e (eqb_eq found 0 q)))
-        (λ q. rw at (sym (cleared_more found e (λ z. true≢false (sym (eqb_true found 0 z) ∙ q)))))
+    pub passed_below : i < length (take (slot_count t) r) → i < slot_count t
+    passed_below h = rw front at h
 
-  pub reported_all : (i : ℕ) (r : Bytes) → slot_count t ≤ i → slot_count t ≤ length r → reported_to i t r ≡ over (report_of t) r
+    pub passed_all : length (take (slot_count t) r) ≤ i → slot_count t ≤ i
+    passed_all h = rw front at h
+
+  pub reported_all : (i : ℕ) (r : Bytes) → slot_count t ≤ i → slot_count t ≤ length r → (p : Bytes) → p ≡ reported_to i t (take (slot_count t) r)
+      → p ++ drop (slot_count t) r ≡ over (report_of t) r
   unfolding reported_to over report_of
-  reported_all i r h k = all_write_to i (findings_of t) r (rw count h) (rw count k)
+  reported_all i r h room p e =
+      let n = slot_count t in
+      let front : length (take n r) ≡ n = length-take-le n r room in
+      let bytes : length (map finding_byte (findings_of t)) ≡ n = length-map (findings_of t) finding_byte ∙ count in
+      let none : drop (length (map finding_byte (findings_of t))) (take n r) ≡ [] = drop_all (length (map finding_byte (findings_of t))) (take n r) (omega arith) in
+      let all : p ≡ map finding_byte (findings_of t) =
+      e ∙ all_write_to i (findings_of t) (take n r) (rw count h) (omega (arith, count)) ∙ rw none (append-nil (map finding_byte (findings_of t))) in
+      rw (all, bytes)
 
   pub cleared_all : (i : ℕ) → slot_count t ≤ i → cleared_to i t ≡ cleared (findings_of t)
   unfolding cleared_to

@@ -1,11 +1,12 @@
 // The salvage of a damaged table (PROFILE 2.10): what is in order is kept, and all else is cleared.
 #![tactic(auto)]
 
-ghost use Rattle.std.specs.Prelude.{◌≡◌};
+ghost use Rattle.std.specs.Prelude.{◌≡◌, ◌≤◌, IfOk};
+ghost use Rattle.profile.specs.Sizes.{most_slots};
 ghost use Rattle.profile.specs.Salvage.{salvage as salvage_of};
-ghost use Rattle.salvage.specs.Salvages.{salvaged};
+ghost use Rattle.salvage.specs.Salvages.{number_given, salvaged};
 
-use profile::number::{REPORT_BUFFER_SHORT, TABLE_LENGTH};
+use codes::fault::Fault;
 use profile::sizes::SLOT_BYTES;
 
 mod finding; // finding.rt: what is found of one slot
@@ -13,14 +14,15 @@ mod slots_left; // slots_left.rt: the slots one after another, kept or cleared w
 
 // 102 where the table's length is none of a table's, then 107 where the report buffer has fewer bytes than the table has slots, with no
 // byte of either changed. Otherwise the number of slots cleared, each of them reported. Nothing is required of table or report.
-pub fn salvage(table: &mut [u8], report: &mut [u8]) -> u16
-    ensures { salvaged result table.new report.new ≡ salvage_of table.old report.old }
+pub fn salvage(table: &mut [u8], report: &mut [u8]) -> Result<u16, Fault>
+    ensures is { salvaged (number_given result) table.new report.new ≡ salvage_of table.old report.old }
+    ensures few { IfOk result (λ n. n ≤ most_slots) }
 {
     if !tables::part::whole_slots(table) {
-        return TABLE_LENGTH;
+        return Err(Fault::TableLength);
     }
     if report.len() < table.len() / SLOT_BYTES {
-        return REPORT_BUFFER_SHORT;
+        return Err(Fault::ReportBufferShort);
     }
-    slots_left::leave_slots(table, report)
+    Ok(slots_left::leave_slots(table, report))
 }

@@ -1,34 +1,32 @@
 // The slots of a table, from the lowest up, each kept or cleared where it stands.
-ghost use Rattle.std.specs.Prelude.{◌≡◌, [], true, ◌+◌, ◌<◌, ◌≤◌, length, get_or, set, take, nat_eq, if◌then◌else◌};
+ghost use Rattle.std.specs.Prelude.{◌≡◌, [], ◌∷◌, true, ◌+◌, ◌<◌, ◌≤◌, length};
+ghost use Rattle.codes.specs.Codes.{finding_meant};
 ghost use Rattle.profile.specs.Bytes.{over};
 ghost use Rattle.profile.specs.Table.{slot_count, whole_slots};
 ghost use Rattle.profile.specs.Salvage.{cleared as cleared_of, findings_of, left_of, report_of};
 ghost use Rattle.salvage.specs.Salvages.{Settled};
 
-use profile::finding::KEPT;
+use codes::finding::Finding;
 use profile::sizes::SLOT_BYTES;
 
 // Slot i, kept or cleared by what is found of it.
-fn settle(t: &mut [u8], i: usize) -> u8
+fn settle(t: &mut [u8], i: usize) -> Finding
     requires { (whole_slots t.old ≡ true) × (i < slot_count t.old) }
-    ensures { Settled i t.old result t.new }
+    ensures { Settled i t.old (finding_meant result) t.new }
 {
     let found = crate::finding::find(t, i);
-    if found != KEPT {
+    if found != Finding::Kept {
         changes::wipe_slot(t, i);
     }
     found
 }
 
 // How many slots are cleared, with one more of which this is found: every one but those that are kept.
-fn counted(cleared: u16, found: u8) -> u16
+fn counted(cleared: u16, found: Finding) -> u16
     requires { cleared < 65535 }
-    ensures { result ≡ (if nat_eq found 0 then cleared else cleared + 1) }
+    ensures { result ≡ cleared + cleared_of (finding_meant found ∷ []) }
 {
-    if found == KEPT {
-        return cleared;
-    }
-    cleared + 1
+    cleared + u16::from(found != Finding::Kept)
 }
 
 // All slots. The report gets a byte for each, and those cleared are counted.
@@ -38,12 +36,10 @@ pub(crate) fn leave_slots(t: &mut [u8], report: &mut [u8]) -> u16
 {
     let n = t.len() / SLOT_BYTES;
     let mut cleared: u16 = 0;
-    let mut i = 0;
-    while i < n {
+    for (i, told) in report[..n].iter_mut().enumerate() {
         let found = settle(t, i);
-        report[i] = found;
+        *told = found.byte();
         cleared = counted(cleared, found);
-        i += 1;
     }
     cleared
 }

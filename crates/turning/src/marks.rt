@@ -9,6 +9,7 @@ use profile::sizes::SLOT_BYTES;
 use profile::slot::COUNT_AT;
 
 // A slot with a count that is not 0 gets the bit; place and hash count stay, and so does every other byte.
+// The slot is lent as a slice: no proof says what an array that is lent of a part of the table writes back.
 fn mark_slot(s: &mut [u8])
     requires { (length s.old ≡ slot_size) × (kept_of s.old ≡ 0) × (spare_of s.old ≡ 0) }
     ensures { s.new ≡ turn_slot s.old }
@@ -25,12 +26,9 @@ pub(crate) fn mark_slots(t: &mut [u8])
     requires { (whole_slots t.old ≡ true) × (all well_before (slot_bytes t.old) ≡ true) }
     ensures { t.new ≡ joined (map turn_slot (slot_bytes t.old)) }
 {
-    let n = t.len() / SLOT_BYTES;
-    let mut i = 0;
-    while i < n {
+    for i in 0..t.len() / SLOT_BYTES {
         let from = SLOT_BYTES * i;
         let to = from + SLOT_BYTES;
         mark_slot(&mut t[from..to]);
-        i += 1;
     }
 }

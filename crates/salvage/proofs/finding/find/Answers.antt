@@ -1,8 +1,6 @@
 -- `salvage::finding::find` meets its contract: the slot's own tests, and then those of the slots below it. Assumes nothing.
-use Prim.Native.Nat.{◌*◌}
 use mathlib.Core.Path.{sym, ◌∙◌}
 use native.Mathlib.Omega.{arith}
-use lib.Seq.{length-take-le}
 use Rattle.salvage.proofs.Below.{alone, finds_damage, finds_none, finds_again, finds_once}
 use Rattle.salvage.proofs.finding.find.Goals as goal
 
@@ -13,13 +11,10 @@ pub returns-then-slot_place-eq0 : goal.returns-then-slot_place-eq0
 returns-then-slot_place-eq0 c = finds_none c.args.t.now c.args.i c.requires _ c.slot_at-s.ensures.0 (sym (alone _ c.slot_at-s.ensures.1) ∙ sym c.well_table.ensures ∙ c.if-not-well_table.false)
     (omega (arith, c.slot_place.ensures, c.if-slot_place-eq0.true))
 
-pub slice_bounds-in_use-end : goal.slice_bounds-in_use-end
-slice_bounds-in_use-end c = sym (length-take-le (4288 * c.args.i) c.args.t.now (omega (arith, c.requires)))
-
 pub returns-then-in_use : goal.returns-then-in_use
 returns-then-in_use c = finds_again c.args.t.now c.args.i c.requires _ c.slot_at-s.ensures.0 (sym (alone _ c.slot_at-s.ensures.1) ∙ sym c.well_table.ensures ∙ c.if-not-well_table.false)
-    (λ e. omega (arith, c.slot_place.ensures, c.if-slot_place-eq0.false)) _ c.handle_at.ensures (sym c.in_use.ensures ∙ c.if-in_use.true)
+    (λ e. omega (arith, c.slot_place.ensures, c.if-slot_place-eq0.false)) _ c.array_at.ensures (sym c.in_use.ensures ∙ c.if-in_use.true)
 
 pub returns : goal.returns
 returns c = finds_once c.args.t.now c.args.i c.requires _ c.slot_at-s.ensures.0 (sym (alone _ c.slot_at-s.ensures.1) ∙ sym c.well_table.ensures ∙ c.if-not-well_table.false)
-    (λ e. omega (arith, c.slot_place.ensures, c.if-slot_place-eq0.false)) _ c.handle_at.ensures (sym c.in_use.ensures ∙ c.if-in_use.false)
+    (λ e. omega (arith, c.slot_place.ensures, c.if-slot_place-eq0.false)) _ c.array_at.ensures (sym c.in_use.ensures ∙ c.if-in_use.false)
