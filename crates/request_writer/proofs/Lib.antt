@@ -1,3 +1,4 @@
+pub mod Parts
 pub mod FrameParts
 pub mod AllowedFrames
 pub mod ReadBack

@@ -12,6 +12,10 @@ use Rattle.profile.specs.Request.{asks, read_request, write_request}
 use Rattle.profile.specs.Device.{Fields, request_of, Arrays, Written, write}
 use Rattle.profile.specs.Theorems.{ReadsBack}
 use Rattle.profile.proofs.Writer.{written_reads}
+use Rattle.std.specs.Prelude.{Result}
+use Rattle.request_reader.specs.declared.asked.Why.{Why}
+use Rattle.std.specs.Prelude.{Result}
+use Rattle.request_reader.specs.declared.asked.Why.{Why}
 use Rattle.request_reader.specs.declared.asked.Asked.{Asked}
 use Rattle.request_reader.specs.Answer.{meaning, Answers}
 use Rattle.request_writer.specs.Writing.{wrote}
@@ -52,5 +56,5 @@ reads_back kind f d y a e =
     first = ap (take (length w)) is ∙ take_at w (drop (length w) d) (length w) refl
 
 -- so the reader's answer to those bytes means the fields
-pub answer_back : (kind : ℕ) (f : Fields) (d y : Bytes) (b : Back kind f d y) (r : Asked) → Answers (take b.size y) r → meaning (take b.size y) r ≡ asks (request_of b.of_kind f)
+pub answer_back : (kind : ℕ) (f : Fields) (d y : Bytes) (b : Back kind f d y) (r : Result Asked Why) → Answers (take b.size y) r → meaning (take b.size y) r ≡ asks (request_of b.of_kind f)
 answer_back kind f d y b r a = a.means ∙ b.read

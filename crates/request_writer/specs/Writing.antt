@@ -1,9 +1,9 @@
 -- What the parts of the request writer do.
-use Rattle.std.specs.Prelude.{ℕ, ◌+◌, ◌*◌, ◌∷◌, ◌++◌}
-use Rattle.profile.specs.Bytes.{Bytes, word_bytes}
+use Rattle.std.specs.Prelude.{ℕ, ◌+◌, ◌*◌, List, ◌∷◌, ◌++◌, map}
+use Rattle.std.specs.Borrow.{Bor}
+use Rattle.profile.specs.Bytes.{Bytes, word_bytes, joined}
 use Rattle.profile.specs.Frame.{frame_head}
 use Rattle.profile.specs.Device.{Written}
-use Rattle.request_fields.specs.declared.Plain.{Plain}
 
 -- a number, and the buffer afterwards
 abbrev pub wrote : ℕ → Bytes → Written
@@ -13,6 +13,6 @@ wrote n buffer = record { number = n; buffer = buffer }
 abbrev pub started : ℕ → ℕ → ℕ → Bytes → Bytes
 started kind kept n b = frame_head kind ∷ (128 + 64 * kept) ∷ word_bytes n ++ b
 
--- the body of kind 2 with n hashes
-abbrev pub right_body : Plain → ℕ → Bytes → Bytes → Bytes
-right_body p n hashes payload = p.handle ++ (p.key ++ (word_bytes p.count ++ ((16 * n) ∷ (hashes ++ payload))))
+-- parts of a body, one after another
+abbrev pub parts_joined : List (Bor Bytes) → Bytes
+parts_joined parts = joined (map (λ part. part.now) parts)

@@ -1,45 +1,56 @@
 // The request writer (PROFILE 6.2): 202, then 201, then the frame.
 ghost use Rattle.std.specs.Prelude.{◌≡◌, true, ◌&&◌};
-ghost use Rattle.profile.specs.Frame.{kind_of};
-ghost use Rattle.profile.specs.Device.{whole_hashes, write_kind, write};
-ghost use Rattle.request_fields.specs.Given.{fields_of, kind_allows};
+ghost use Rattle.codes.specs.Codes.{kind_meant, number_in};
+ghost use Rattle.profile.specs.Request.{write_request as request_written};
+ghost use Rattle.profile.specs.Device.{whole_hashes, kind_holds, request_of, put, write};
+ghost use Rattle.request_fields.specs.Given.{fields_of};
 ghost use Rattle.request_writer.specs.Writing.{wrote};
 
-use profile::number::WRITER_FIELDS;
+use crate::frames::{counted, write_frame};
+use codes::fault::Fault;
+use codes::kind::Kind;
 use profile::sizes::HASH_BYTES;
-use request_fields::Plain;
+use request_fields::Fields;
 
-// The parts of each kind, once its fields are allowed.
-fn write_kind(kind: u8, p: Plain, hashes: &[u8], payload: &[u8], out: &mut [u8]) -> u16
-    requires { (whole_hashes hashes.now && kind_allows (kind_of kind) (fields_of p hashes.now payload.now)) ≡ true }
-    ensures { wrote result out.new ≡ write_kind (kind_of kind) (fields_of p hashes.now payload.now) out.old }
+// The parts of each kind (PROFILE 3.3), once its fields are allowed.
+fn write_kind(kind: Kind, f: &Fields, out: &mut [u8]) -> Result<(), Fault>
+    requires { (whole_hashes f.now.hashes.now && kind_holds (kind_meant kind) (fields_of f.now)) ≡ true }
+    ensures { wrote (number_in result) out.new ≡ put (request_written (request_of (kind_meant kind) (fields_of f.now))) out.old }
 {
-    let handle = p.handle;
-    let new = p.new;
-    let n = (hashes.len() / HASH_BYTES) as u8;
+    let none = None;
+    let count = counts::count_with(f.kept, f.count);
+    // Copies, since the references of one array are to live equally long.
+    let handle = f.handle;
+    let new = f.new;
+    let key = f.key;
+    let number = counts::number_of(count);
+    let bytes = words::bytes_of(number);
+    let room = words::bytes_of(f.room);
+    let n = (f.hashes.len() / HASH_BYTES) as u8; // at most 8, so that `as` loses nothing
+    let listed = counted(f.limit, n);
     match kind {
-        1 => crate::frames::write_word(out, 1, 0, handle, p.room),
-        2 => crate::frames::write_right(out, p, n, hashes, payload),
-        3 => crate::frames::write_two(out, 3, handle, new),
-        4 => crate::frames::write_two(out, 4, handle, new),
-        5 => crate::frames::write_word(out, 5, p.kept, handle, p.count),
-        6 => crate::frames::write_one(out, 6, handle),
-        7 => crate::frames::write_one(out, 7, handle),
-        8 => crate::frames::write_hashes(out, p.limit, n, hashes),
-        9 => crate::frames::write_one(out, 9, handle),
-        _ => WRITER_FIELDS,
+        Kind::Setup => write_frame(out, kind, none, &[&handle, &room]),
+        Kind::Install => {
+            let three = counted(number, bits::fields::hash_count_byte(n));
+            let hashes = &f.hashes[..];
+            let payload = &f.payload[..];
+            write_frame(out, kind, count, &[&handle, &key, &three, hashes, payload])
+        }
+        Kind::Retrieve | Kind::Rek => write_frame(out, kind, none, &[&handle, &new]),
+        Kind::Enable => write_frame(out, kind, count, &[&handle, &bytes]),
+        Kind::Remove | Kind::Cancel | Kind::Info => write_frame(out, kind, none, &[&handle]),
+        Kind::List => write_frame(out, kind, none, &[&listed, &f.hashes[..]]),
     }
 }
 
 // A kind and fields, written as a request with the verdict 1 and the bit of its count. It is refused with 202 for its kind or fields, and
 // then with 201 where the buffer is shorter than the frame.
-pub fn write_request(kind: u8, p: Plain, hashes: &[u8], payload: &[u8], out: &mut [u8]) -> u16
-    ensures { wrote result out.new ≡ write kind (fields_of p hashes.now payload.now) out.old }
+#[tactic(auto, unfolding(profile::specs::Device::write))]
+pub fn write_request(kind: u8, f: &Fields, out: &mut [u8]) -> Result<(), Fault>
+    ensures { wrote (number_in result) out.new ≡ write kind (fields_of f.now) out.old }
 {
-    let whole = request_fields::whole_hashes(hashes);
-    let allowed = whole & request_fields::kind_allows(kind, p, hashes, payload);
-    if !allowed {
-        return WRITER_FIELDS;
+    match Kind::try_from(kind) {
+        Ok(kind) if f.whole_hashes() & f.kind_allows(kind) => write_kind(kind, f, out),
+        _ => Err(Fault::WriterFields),
     }
-    write_kind(kind, p, hashes, payload, out)
 }
