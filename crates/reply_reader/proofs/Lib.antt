@@ -1,4 +1,3 @@
 pub mod Shapes
-pub mod Tellings
 pub mod Meanings
 pub mod ReadBack

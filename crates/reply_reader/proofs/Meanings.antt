@@ -2,30 +2,56 @@
 use mathlib.Core.Path.{◌≡◌, refl, sym, ap, ap₂, ◌∙◌}
 use mathlib.Core.List.{List}
 use mathlib.Core.Option.{Option, none, some}
-use mathlib.Core.Bool.{Bool, true, false, ◌&&◌, not}
-use Prim.Native.Nat.{ℕ, ◌+◌, ◌-◌, ◌*◌, ◌/◌, ◌%◌}
+use mathlib.Core.Bool.{Bool, true, false, ◌&&◌, ◌||◌, not}
+use Prim.Native.Nat.{ℕ, zero, suc, ◌<◌, ◌+◌, ◌-◌, ◌*◌, ◌/◌, ◌%◌}
 use native.Mathlib.Omega.{arith}
 use lib.Dec.{eqb}
 use lib.ListN.{length, drop, length-drop}
 use lib.Seq.{drop-drop, take_all}
-use Rattle.std.specs.Prelude.{if◌then◌else◌}
+use Rattle.std.specs.Prelude.{if◌then◌else◌, Result, Ok}
+use borrow.Author.Tests.{eqb-true, ne_eqb, lt-leb}
+use Rattle.codes.specs.Codes.{number_in, refusal_meant}
+use Rattle.codes.specs.declared.refusal.Refusal.{Refusal}
+use Rattle.codes.specs.declared.fault.Fault.{Fault}
 use Rattle.profile.specs.Bytes.{Bytes, byte, part, pieces}
 use Rattle.profile.specs.Sizes.{handle_size, key_size, hash_size}
 use Rattle.profile.specs.Slot.{Count, count_with}
-use Rattle.profile.specs.Frame.{Kind, setup_kind, install_kind, retrieve_kind, rek_kind, enable_kind, remove_kind, cancel_kind, list_kind, info_kind, kind_of, is_status, is_frame, version_holds, kind_number, body, kept_in, status_in, hash_count_at18}
+use Rattle.profile.specs.Frame.{Kind, setup_kind, install_kind, retrieve_kind, rek_kind, enable_kind, remove_kind, cancel_kind, list_kind, info_kind, kind_of, code, is_status, is_frame, version_holds, kind_number, body, kept_in, status_in, hash_count_at18}
 use Rattle.profile.specs.Request.{number_of, fields}
 use Rattle.profile.specs.Agent.{Given, nothing, the_right, the_key, handles, counted}
-use Rattle.profile.specs.Device.{none?, bit_allowed, shaped, count_given, given, gave, read_success, read_reply}
+use Rattle.profile.specs.Device.{none?, bit_allowed, shaped, count_given, given, malformed, failed, gave, read_success, read_reply}
+use Rattle.profile.proofs.Logic.{if_both, if_cases}
 use Rattle.profile.proofs.Requests.{kind_number_lem}
 use Rattle.reply_reader.specs.declared.answer.Answer.{Answer}
-use Rattle.reply_reader.specs.declared.answer.Answer.TheVariants.{Malformed, Failed, Nothing, Right, Key, Handles, Counted}
+use Rattle.reply_reader.specs.declared.answer.Answer.TheVariants.{Failed, Nothing, Right, Key, Handles, Counted}
 use Rattle.reply_reader.specs.declared.answer.Told.{Told}
-use Rattle.reply_reader.specs.Told.{number, meant, meaning, refusal, keyless, count_from, payload_from, right_in, key_in, list_in, info_in, told_shaped, told_success, told, Reads}
+use Rattle.reply_reader.specs.Told.{meant, meaning, refusal, keyless, unread, count_from, payload_from, right_in, key_in, list_in, info_in, told_shaped, told_success, refusal_of, told_failed, told, Reads}
 use Rattle.reply_reader.proofs.Shapes.{body_byte, body_word, eqb_same, key_room, list_room}
 
 if_map : {A B : Type 0} (g : A → B) (b : Bool) {x y : A} {u v : B} → (b ≡ true → g x ≡ u) → (b ≡ false → g y ≡ v) → g (if b then x else y) ≡ (if b then u else v)
 if_map g true p q = p refl
 if_map g false p q = q refl
+
+-- ---- a status and its refusal
+abbrev StatusSays : ℕ → Option Refusal → Type 0
+StatusSays s none = (eqb s 0 || not (is_status s)) ≡ true
+StatusSays s (some r) = (code (refusal_meant r) ≡ s) × (is_status s ≡ true) × (eqb s 0 ≡ false)
+
+status_says : (s : ℕ) → StatusSays s (refusal_of s)
+status_says zero = refl
+status_says (suc zero) = (refl, refl, refl)
+status_says (suc (suc zero)) = (refl, refl, refl)
+status_says (suc (suc (suc zero))) = (refl, refl, refl)
+status_says (suc (suc (suc (suc zero)))) = (refl, refl, refl)
+status_says (suc (suc (suc (suc (suc zero))))) = (refl, refl, refl)
+status_says (suc (suc (suc (suc (suc (suc zero)))))) = (refl, refl, refl)
+status_says (suc (suc (suc (suc (suc (suc (suc zero))))))) = (refl, refl, refl)
+status_says (suc (suc (suc (suc (suc (suc (suc (suc zero)))))))) = refl
+status_says (suc (suc (suc (suc (suc (suc (suc (suc (suc zero))))))))) = (refl, refl, refl)
+status_says (suc (suc (suc (suc (suc (suc (suc (suc (suc (suc k)))))))))) = none_over (suc (suc (suc (suc (suc (suc (suc (suc (suc (suc k)))))))))) (omega arith)
+  where
+    none_over : (s : ℕ) → 9 < s → (eqb s 0 || not (is_status s)) ≡ true
+    none_over s h = rw (ne_eqb s 0 (λ e. omega arith), lt-leb s 7 (omega arith), ne_eqb s 9 (λ e. omega arith))
 
 module _ (f : Bytes) where
   -- ---- fields of the body, where they stand in the frame
@@ -73,7 +99,7 @@ module _ (f : Bytes) where
   info_given : counted (count_from 4 f) (part 6 (length f - 6) f) ≡ given info_kind f
   info_given = ap₂ (λ (a : Count) (b : Bytes). counted a b) (ap (count_with (kept_in f)) (sym (body_word f 0))) (to_the_end 6 ∙ sym (body_drop 2))
 
-  of_kind : (k : Kind) → number_of (fields k f) ≡ kind_number f → shaped k f ≡ true → meaning f (told_shaped k f) ≡ gave (kind_number f) (given k f)
+  of_kind : (k : Kind) → number_of (fields k f) ≡ kind_number f → shaped k f ≡ true → meaning f (Ok (told_shaped k f)) ≡ gave (kind_number f) (given k f)
   unfolding keyless right_in key_in list_in info_in
   of_kind setup_kind n s = ap (λ (k : ℕ). gave k nothing) n
   of_kind install_kind n s = ap (λ (k : ℕ). gave k nothing) n
@@ -91,24 +117,52 @@ module _ (f : Bytes) where
   of_success none e = refl
   of_success (some k) e = if_map (meaning f) (shaped k f) (of_kind k (kind_number_lem (kind_number f) k e f)) (λ _. refl)
 
+  of_status : (s : ℕ) (r : Option Refusal) → StatusSays s r
+      → meaning f (if eqb s 0 then told_success (kind_of (kind_number f)) f else told_failed (kind_number f) r f)
+      ≡ (if not (is_status s) then malformed else if eqb s 0 then read_success (kind_of (kind_number f)) f else if none? (body f) then failed (kind_number f) s else malformed)
+  unfolding keyless
+  of_status s none e = go (eqb s 0) refl
+    where
+      go : (b : Bool) → eqb s 0 ≡ b
+          → meaning f (if eqb s 0 then told_success (kind_of (kind_number f)) f else unread)
+          ≡ (if not (is_status s) then malformed else if eqb s 0 then read_success (kind_of (kind_number f)) f else if none? (body f) then failed (kind_number f) s else malformed)
+      go true z = rw (eqb-true s 0 z) (of_success (kind_of (kind_number f)) refl)
+      go false z = let n : not (is_status s) ≡ true = rw z at e in rw (z, n)
+  of_status s (some r) h = rw (h.2, h.1) (if_map (meaning f) (none? (body f)) (λ _. ap (failed (kind_number f)) h.0) (λ _. refl))
+
   pub told_means : meaning f (told f) ≡ read_reply f
-  unfolding told read_reply keyless
+  unfolding told read_reply
   told_means =
       if_map (meaning f) (not (is_frame f && version_holds f)) (λ _. refl) λ _.
-      if_map (meaning f) (not (bit_allowed f)) (λ _. refl) λ _.
-      if_map (meaning f) (not (is_status (status_in f))) (λ _. refl) λ _.
-      if_map (meaning f) (eqb (status_in f) 0) (λ _. of_success (kind_of (kind_number f)) refl) λ _.
-      if_map (meaning f) (none? (body f)) (λ _. refl) (λ _. refl)
+      if_map (meaning f) (not (bit_allowed f)) (λ _. refl) λ _. of_status (status_in f) (refusal_of (status_in f)) (status_says (status_in f))
 
-  pub reads : (t : Told) → t ≡ told f → Reads f t
+  pub reads : (t : Result Told Fault) → t ≡ told f → Reads f t
   reads t e = record { exact = e; means = ap (meaning f) e ∙ told_means }
 
--- the number of an answer is that of what it means
-pub number_means : (f key : Bytes) (a : Answer) → number a ≡ refusal (meant f key a)
-number_means f key Malformed = refl
-number_means f key (Failed kind status) = refl
-number_means f key (Nothing kind) = refl
-number_means f key (Right count n hashes at size) = refl
-number_means f key Key = refl
-number_means f key (Handles more n at) = refl
-number_means f key (Counted count at size) = refl
+  -- ---- the number of what is told is that of what it means
+  abbrev pub NumberMeans : Result Told Fault → Type 0
+  NumberMeans t = number_in t ≡ refusal (meaning f t)
+
+  of_answer : (key : Bytes) (a : Answer) → 0 ≡ refusal (meant f key a)
+  of_answer key (Failed kind r) = refl
+  of_answer key (Nothing kind) = refl
+  of_answer key (Right count n hashes at size) = refl
+  of_answer key Key = refl
+  of_answer key (Handles more n at) = refl
+  of_answer key (Counted count at size) = refl
+
+  number_success : (k : Option Kind) → NumberMeans (told_success k f)
+  number_success none = refl
+  number_success (some k) = if_cases NumberMeans (shaped k f) (λ _. of_answer (told_shaped k f).key (told_shaped k f).answer) (λ _. refl)
+
+  number_failed : (r : Option Refusal) → NumberMeans (told_failed (kind_number f) r f)
+  unfolding keyless
+  number_failed none = refl
+  number_failed (some r) = if_both NumberMeans (none? (body f)) refl refl
+
+  pub number_means : NumberMeans (told f)
+  unfolding told
+  number_means =
+      if_both NumberMeans (not (is_frame f && version_holds f)) refl
+      (if_both NumberMeans (not (bit_allowed f)) refl
+      (if_both NumberMeans (eqb (status_in f) 0) (number_success (kind_of (kind_number f))) (number_failed (refusal_of (status_in f)))))

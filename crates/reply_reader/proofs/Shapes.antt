@@ -1,8 +1,8 @@
 -- The reader's tests on a whole frame, as the profile has them on its body. Assumes nothing.
 use mathlib.Core.Path.{◌≡◌, refl, sym, ap, ap₂, ◌∙◌}
 use mathlib.Core.List.{[], ◌∷◌}
-use mathlib.Core.Bool.{Bool, true, false, ◌&&◌, ◌||◌}
-use Prim.Native.Nat.{ℕ, zero, suc, ◌+◌, ◌-◌, ◌*◌, ◌/◌, ◌%◌, ◌≤◌, ◌<◌}
+use mathlib.Core.Bool.{Bool, true, false, ◌&&◌}
+use Prim.Native.Nat.{ℕ, suc, ◌+◌, ◌-◌, ◌*◌, ◌/◌, ◌%◌, ◌≤◌, ◌<◌}
 use native.Mathlib.Omega.{arith}
 use lib.Dec.{eqb, leb, ltb}
 use lib.ListN.{length, length-drop}
@@ -11,8 +11,8 @@ use borrow.Author.Tests.{eqb-true, eqb-false, leb-true, leb-false, eq-eqb, ne_eq
 use Rattle.profile.specs.Bytes.{Bytes, byte, word, from1to}
 use Rattle.profile.specs.Sizes.{most_slots, most_payload, handle_size, key_size, hash_size, most_hashes}
 use Rattle.profile.specs.Slot.{Count, count_holds, count_with}
-use Rattle.profile.specs.Frame.{kind_of, is_frame, version_holds, body, kept_in, right_fits, retrieve_kind, rek_kind, list_kind, info_kind}
-use Rattle.profile.specs.Device.{none?, gives_count, shaped}
+use Rattle.profile.specs.Frame.{is_frame, version_holds, body, kept_in, right_fits, retrieve_kind, rek_kind, list_kind, info_kind}
+use Rattle.profile.specs.Device.{none?, shaped}
 use Rattle.profile.proofs.Logic.{and_parts}
 use Rattle.reply_reader.specs.Told.{count_from, payload_from}
 
@@ -36,23 +36,6 @@ eqb_same a b c d p q = go (eqb c d) refl
 none_short : (s : Bytes) → none? s ≡ leb (length s) 0
 none_short [] = refl
 none_short (x ∷ s) = sym (lt-leb (suc (length s)) 0 (omega arith))
-
--- the kinds that give a count, by number
-neither : (k : ℕ) → 9 < k → (eqb k 3 || eqb k 9) ≡ false
-neither k h = rw (ne_eqb k 3 (λ e. omega arith), ne_eqb k 9 (λ e. omega arith))
-
-pub gives_tests : (k : ℕ) → (eqb k 3 || eqb k 9) ≡ gives_count (kind_of k)
-gives_tests zero = refl
-gives_tests (suc zero) = refl
-gives_tests (suc (suc zero)) = refl
-gives_tests (suc (suc (suc zero))) = refl
-gives_tests (suc (suc (suc (suc zero)))) = refl
-gives_tests (suc (suc (suc (suc (suc zero))))) = refl
-gives_tests (suc (suc (suc (suc (suc (suc zero)))))) = refl
-gives_tests (suc (suc (suc (suc (suc (suc (suc zero))))))) = refl
-gives_tests (suc (suc (suc (suc (suc (suc (suc (suc zero)))))))) = refl
-gives_tests (suc (suc (suc (suc (suc (suc (suc (suc (suc zero))))))))) = refl
-gives_tests (suc (suc (suc (suc (suc (suc (suc (suc (suc (suc k)))))))))) = neither (suc (suc (suc (suc (suc (suc (suc (suc (suc (suc k)))))))))) (omega arith)
 
 module _ (f : Bytes) where
   body_length : length (body f) ≡ length f - 4

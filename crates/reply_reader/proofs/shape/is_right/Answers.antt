@@ -7,4 +7,4 @@ pub returns-then-f-lt24 : goal.returns-then-f-lt24
 returns-then-f-lt24 c = right_short c.args.f.now c.if-f-lt24.true
 
 pub returns : goal.returns
-returns c = right_tests c.args.f.now c.if-f-lt24.false (c.wide8-hashes.ensures ∙ c.hash_count_of.ensures) c.hash_count_rest-rest.ensures c.says_count-counted.ensures
+returns c = right_tests c.args.f.now c.if-f-lt24.false (c.from-hashes.ensures ∙ c.hash_count_of.ensures) c.hash_count_rest-rest.ensures c.says_count-counted.ensures
