@@ -1,43 +1,42 @@
 -- The whole listing: refused, or a header and the lines. Assumes nothing.
-use Prim.Native.Nat.{ℕ, ◌≤◌}
-use mathlib.Core.Path.{◌≡◌, sym, ◌∙◌}
-use mathlib.Core.Bool.{Bool, true, false, not}
+use Prim.Native.Nat.{ℕ, ◌≤◌, ◌<◌}
+use mathlib.Core.Path.{◌≡◌, ◌∙◌}
+use mathlib.Core.List.{◌++◌}
 use native.Mathlib.Omega.{arith}
-use native.Mathlib.Nat.{zero-add}
 use lib.ListN.{length, length-append}
-use borrow.Author.Tests.{not-true, not-false}
+use Rattle.std.specs.Borrow.{MutBor}
+use Rattle.codes.specs.Codes.{fault_number}
+use Rattle.codes.specs.declared.fault.Fault.{Fault}
+use Rattle.codes.specs.declared.fault.Fault.TheVariants.{TableLength, TableNotWellFormed}
 use Rattle.profile.specs.Bytes.{Bytes, over}
-use Rattle.profile.specs.Sizes.{table_length, table_not_well_formed}
-use Rattle.profile.specs.Table.{whole_slots, well_table}
 use Rattle.profile.specs.Listing.{header, listing}
-use Rattle.buffers.proofs.Overlays.{over_start}
-use Rattle.texts.specs.Written.{Wrote, refusal}
-use Rattle.texts.proofs.Writing.{wrote_then}
-use Rattle.listing.specs.Written.{Listable, lines_of}
+use Rattle.texts.specs.Written.{refusal}
+use Rattle.texts.specs.Put.{Begun, Put}
+use Rattle.texts.specs.declared.Text.{Text}
+use Rattle.texts.proofs.Writing.{text_ends, text_is}
+use Rattle.listing.specs.Written.{Listable, Refuses, lines_of}
 
--- the code's tests p and q are the definition's, and branches are taken by `!p` and `!q`
-pub listable : {t : Bytes} {p q : Bool} → p ≡ whole_slots t → not p ≡ false → q ≡ well_table t → not q ≡ false → Listable t
-listable {p = p} {q = q} whole h well g = record { whole = sym whole ∙ not-false p h; well = sym well ∙ not-false q g }
+-- ---- what a refused table's number is, and that its line is the listing
+module _ (t : Bytes) where
+  pub refused_few : (f : Fault) → Refuses t f → fault_number f < 1000
+  refused_few TableLength r = omega arith
+  refused_few TableNotWellFormed r = omega arith
+  refused_few _ r = absurd r
 
-abbrev Listed : Bytes → Bytes → Bytes → ℕ → Type 0
-Listed t d d' end = (end ≡ length (listing t)) × (d' ≡ over (listing t) d)
-
-module _ (t : Bytes) {d d' : Bytes} {end : ℕ} where
-  -- what was put at the start of the buffer is the listing
-  listed : {xs : Bytes} → xs ≡ listing t → Wrote xs 0 d d' end → Listed t d d' end
-  listed {xs} e w = rw (← e) (w.ends ∙ zero-add (length xs), w.written ∙ over_start xs d)
-
-  pub listed_102 : {p : Bool} → p ≡ whole_slots t → not p ≡ true → Wrote (refusal table_length) 0 d d' end → Listed t d d' end
+  pub refused_is : (f : Fault) → Refuses t f → refusal (fault_number f) ≡ listing t
   unfolding listing refusal
-  listed_102 {p} whole h = listed (rw (← whole, not-true p h))
+  refused_is TableLength r = rw r
+  refused_is TableNotWellFormed r = rw (r.0, r.1)
+  refused_is _ r = absurd r
 
-  pub listed_103 : {p q : Bool} → p ≡ whole_slots t → not p ≡ false → q ≡ well_table t → not q ≡ true → Wrote (refusal table_not_well_formed) 0 d d' end → Listed t d d' end
-  unfolding listing refusal
-  listed_103 {p} {q} whole h well g = listed (rw (← whole, not-false p h, ← well, not-true q g))
-
-  pub listed_lines : Listable t → {b : Bytes} {at : ℕ} → Wrote header 0 d b at → Wrote (lines_of t) at b d' end → Listed t d d' end
+  pub listed_is : Listable t → header ++ lines_of t ≡ listing t
   unfolding listing lines_of
-  listed_lines fit w v = listed (rw (fit.whole, fit.well)) (wrote_then w v)
+  listed_is fit = rw (fit.whole, fit.well)
+
+-- ---- a text that began at the start of the buffer, and is the listing
+pub listed : (t : Bytes) {out : MutBor Bytes} {x y : Text} {xs : Bytes} {end : ℕ} → xs ≡ listing t → Begun out 0 x → Put xs x y → end ≡ y.at
+    → (end ≡ length (listing t)) × (y.out.now ≡ over (listing t) out.now)
+listed t e b p at = rw (← e) (at ∙ text_ends b p, text_is b p)
 
 -- a listing that stands at the start of a buffer ends within it
 pub listing_inside : (t d d' : Bytes) (end : ℕ) → end ≡ length (listing t) → d' ≡ over (listing t) d → end ≤ length d'

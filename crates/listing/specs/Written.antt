@@ -1,5 +1,7 @@
 -- The parts of a listing as they are put into a buffer, one after the other.
-use Rattle.std.specs.Prelude.{ℕ, ◌≡◌, ◌++◌, true}
+use Rattle.std.specs.Prelude.{ℕ, ◌≡◌, ◌++◌, true, false}
+use Rattle.codes.specs.declared.fault.Fault.{Fault}
+use Rattle.codes.specs.declared.fault.Fault.TheVariants.{TableLength, TableNotWellFormed}
 use Rattle.profile.specs.Bytes.{Bytes}
 use Rattle.profile.specs.Text.{text}
 use Rattle.profile.specs.Table.{slot_bytes, whole_slots, well_table}
@@ -10,6 +12,12 @@ use Rattle.texts.specs.Written.{number}
 pub record Listable (table : Bytes) : Type 0 where
   pub whole : whole_slots table ≡ true
   pub well : well_table table ≡ true
+
+-- 102 by the length, and 103 by the form of one whose length is a table's
+abbrev pub Refuses : Bytes → Fault → Type 0
+Refuses table TableLength = whole_slots table ≡ false
+Refuses table TableNotWellFormed = (whole_slots table ≡ true) × (well_table table ≡ false)
+Refuses table _ = ⊥
 
 -- the parts of the profile's definitions, under names that stay shut
 unfoldable pub field : ℕ → Bytes

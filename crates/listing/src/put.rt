@@ -1,30 +1,30 @@
-// The words and numbers of a line, put into a buffer one after the other: each function gives the offset after what it put.
-ghost use Rattle.std.specs.Prelude.{◌+◌, ◌<◌, ◌≤◌, length};
+// The words and numbers of a line, put one after the other.
+ghost use Rattle.std.specs.Prelude.{◌<◌, length};
 ghost use Rattle.slots.specs.Places.{place_number};
-ghost use Rattle.texts.specs.Written.{Wrote};
+ghost use Rattle.texts.specs.Put.{Put, Room};
 ghost use Rattle.listing.specs.Written.{field, placed};
 
 use slots::place::Place;
-use texts::{put_number, put_word};
+use texts::Text;
 
 // A number, with a space in front of it.
-pub(crate) fn put_field(out: &mut [u8], at: usize, n: usize) -> usize
-    requires { (n < 65536) × (at + length (field n) ≤ length out.old) }
-    ensures { Wrote (field n) at out.old out.new result }
+pub(crate) fn put_field(text: &mut Text, n: usize)
+    requires { (n < 65536) × Room (length (field n)) text.old }
+    ensures { Put (field n) text.old text.new }
 {
-    let next = put_word(out, at, b" ");
-    put_number(out, next, n)
+    text.word(b" ");
+    text.number(n);
 }
 
 // A place, as its word.
-pub(crate) fn put_place(out: &mut [u8], at: usize, place: Place) -> usize
-    requires { at + 8 ≤ length out.old }
-    ensures { Wrote (placed (place_number place)) at out.old out.new result }
+pub(crate) fn put_place(text: &mut Text, place: Place)
+    requires { Room 8 text.old }
+    ensures { Put (placed (place_number place)) text.old text.new }
 {
     match place {
-        Place::Empty => put_word(out, at, b"empty"),
-        Place::Reserved => put_word(out, at, b"reserved"),
-        Place::Enabled => put_word(out, at, b"enabled"),
-        Place::Disabled => put_word(out, at, b"disabled"),
+        Place::Empty => text.word(b"empty"),
+        Place::Reserved => text.word(b"reserved"),
+        Place::Enabled => text.word(b"enabled"),
+        Place::Disabled => text.word(b"disabled"),
     }
 }

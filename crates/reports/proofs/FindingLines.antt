@@ -9,22 +9,24 @@ use lib.ListN.{length, get_or, take, length-append}
 use lib.Seq.{take-suc, length-take-le}
 use Rattle.profile.specs.Bytes.{Bytes}
 use Rattle.profile.specs.Text.{text}
-use Rattle.texts.specs.Written.{Wrote, number, numbered}
+use Rattle.texts.specs.Written.{number, numbered}
+use Rattle.texts.specs.Put.{Put}
+use Rattle.texts.specs.declared.Text.{Text}
 use Rattle.texts.proofs.Digits.{number_few}
-use Rattle.texts.proofs.Writing.{wrote_none, wrote_then}
+use Rattle.texts.proofs.Writing.{put_none, put_then}
 use Rattle.reports.specs.Printing.{word_of, line_of, lines_from, lines_of, cleared_text}
 
 -- ---- the word of a byte
-module _ {b at end : ℕ} {d d' : Bytes} where
-  pub is_kept : b ≡ 0 → Wrote (text "kept") at d d' end → Wrote (word_of b) at d d' end
+module _ {b : ℕ} {t t' : Text} where
+  pub is_kept : b ≡ 0 → Put (text "kept") t t' → Put (word_of b) t t'
   unfolding word_of
   is_kept e w = rw e w
 
-  pub is_damaged : b ≡ 1 → Wrote (text "damaged") at d d' end → Wrote (word_of b) at d d' end
+  pub is_damaged : b ≡ 1 → Put (text "damaged") t t' → Put (word_of b) t t'
   unfolding word_of
   is_damaged e w = rw e w
 
-pub is_repeated : (b : ℕ) {at end : ℕ} {d d' : Bytes} → (b ≡ 0 → ⊥) → (b ≡ 1 → ⊥) → Wrote (text "repeated") at d d' end → Wrote (word_of b) at d d' end
+pub is_repeated : (b : ℕ) {t t' : Text} → (b ≡ 0 → ⊥) → (b ≡ 1 → ⊥) → Put (text "repeated") t t' → Put (word_of b) t t'
 unfolding word_of
 is_repeated zero n m w = absurd (n refl)
 is_repeated (suc zero) n m w = absurd (m refl)
@@ -37,10 +39,9 @@ word_most (suc zero) = omega arith
 word_most (suc (suc b)) = omega arith
 
 -- ---- one line
-pub line_there : (i b : ℕ) {at e₁ e₂ e₃ e₄ : ℕ} {d d₁ d₂ d₃ d₄ : Bytes} → Wrote (number i) at d d₁ e₁ → Wrote (text " ") e₁ d₁ d₂ e₂ → Wrote (word_of b) e₂ d₂ d₃ e₃
-    → Wrote (text "\n") e₃ d₃ d₄ e₄ → Wrote (line_of i b) at d d₄ e₄
+pub line_there : (i b : ℕ) {t t₁ t₂ t₃ t₄ : Text} → Put (number i) t t₁ → Put (text " ") t₁ t₂ → Put (word_of b) t₂ t₃ → Put (text "\n") t₃ t₄ → Put (line_of i b) t t₄
 unfolding line_of
-line_there i b u v w x = wrote_then (wrote_then (wrote_then u v) w) x
+line_there i b u v w x = put_then (put_then (put_then u v) w) x
 
 line_most : (i b : ℕ) → i < 100 → length (line_of i b) ≤ 12
 unfolding line_of
@@ -64,19 +65,19 @@ lines_next report i h =
     let more : take (i + 1) report ≡ take i report ++ (get_or report i 0 ∷ []) = rw (add-one i) (take-suc report i 0 h) in
     ap (lines_from 0) more ∙ lines_snoc 0 (take i report) (get_or report i 0) ∙ ap (λ (k : ℕ). lines_from 0 (take i report) ++ line_of k (get_or report i 0)) from_0
 
--- they stand in the buffer d, which was b, and are no longer than they may be
-pub record Passed (report b : Bytes) (i : ℕ) (d : Bytes) (next : ℕ) : Type 0 where
-  pub wrote : Wrote (lines_of (take i report)) 0 b d next
-  pub short : next ≤ 12 * i
+-- they were put after what the text had, and are no longer than they may be
+pub record Passed (report : Bytes) (x : Text) (i : ℕ) (y : Text) : Type 0 where
+  pub put : Put (lines_of (take i report)) x y
+  pub short : y.at ≤ x.at + 12 * i
 
-pub passed_none : (report b : Bytes) → Passed report b 0 b 0
-unfolding lines_of
-passed_none report b = record { wrote = wrote_none b 0 (omega arith); short = omega arith }
+module _ (report : Bytes) (x : Text) where
+  pub passed_none : x.at ≤ length x.out.now → Passed report x 0 x
+  unfolding lines_of
+  passed_none h = record { put = put_none x h; short = omega arith }
 
-pub pass_next : (report b : Bytes) (i next : ℕ) (d : Bytes) → i < 100 → i < length report → Passed report b i d next
-    → (d' : Bytes) (next' : ℕ) → Wrote (line_of i (get_or report i 0)) next d d' next' → Passed report b (i + 1) d' next'
-pass_next report b i next d few h p d' next' w =
-    record {
-      wrote = rw (lines_next report i h) (wrote_then p.wrote w);
-      short = omega (arith, p.short, w.ends, line_most i (get_or report i 0) few);
-    }
+  pub pass_next : (i : ℕ) (y : Text) → i < 100 → i < length report → Passed report x i y → (y' : Text) → Put (line_of i (get_or report i 0)) y y' → Passed report x (i + 1) y'
+  pass_next i y few h p y' w =
+      record {
+        put = rw (lines_next report i h) (put_then p.put w);
+        short = omega (arith, p.short, w.wrote.ends, line_most i (get_or report i 0) few);
+      }

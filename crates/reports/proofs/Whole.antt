@@ -4,9 +4,12 @@ use mathlib.Core.Path.{◌≡◌, refl, sym, ap, ◌∙◌}
 use mathlib.Core.List.{List, [], ◌∷◌, ◌++◌, map}
 use mathlib.Core.Bool.{Bool, true, false}
 use native.Mathlib.Omega.{arith}
-use native.Mathlib.Nat.{zero-add}
 use lib.ListN.{length, take, drop, length-map, length-append, length-take}
 use lib.Seq.{take_at, take_all}
+use Rattle.std.specs.Borrow.{MutBor}
+use Rattle.codes.specs.Codes.{fault_number}
+use Rattle.codes.specs.declared.fault.Fault.{Fault}
+use Rattle.codes.specs.declared.fault.Fault.TheVariants.{ReplyBufferShort, TableLength, TableNotWellFormed, NoFrame, StartOutside, TallyDiffers, ReportBufferShort, TotalOutside, WriterBufferShort, WriterFields, NoReply}
 use Rattle.profile.specs.Bytes.{Bytes, zeros, over}
 use Rattle.profile.specs.Table.{slot_count, slot_bytes, whole_slots}
 use Rattle.profile.specs.Salvage.{Finding, kept, damaged, repeated, finding_byte, cleared, findings_of, left_of, report_of, Salvaged, salvage}
@@ -14,12 +17,13 @@ use Rattle.profile.specs.SalvageText.{table_printed, finding_lines, salvage_text
 use Rattle.profile.proofs.Strings.{length_zeros}
 use Rattle.profile.proofs.WholeSlots.{at_most_15}
 use Rattle.profile.proofs.Salvage.{length_findings, few_cleared, not_refused}
-use Rattle.buffers.proofs.Overlays.{over_start}
 use Rattle.tables.proofs.SlotParts.{length_bytes}
 use Rattle.salvage.specs.Salvages.{salvaged}
 use Rattle.salvage.proofs.Outcomes.{by_length}
-use Rattle.texts.specs.Written.{Wrote, number, refusal}
-use Rattle.texts.proofs.Writing.{wrote_then}
+use Rattle.texts.specs.Written.{number, refusal}
+use Rattle.texts.specs.Put.{Begun, Put}
+use Rattle.texts.specs.declared.Text.{Text}
+use Rattle.texts.proofs.Writing.{put_then, text_ends, text_is}
 use Rattle.reports.specs.Printing.{word_of, line_of, lines_from, lines_of, cleared_text, Prints}
 
 -- ---- lines by bytes are lines by findings
@@ -87,33 +91,48 @@ module _ (t r : Bytes) (n : ℕ) (u p : Bytes) (e : salvaged n u p ≡ salvage t
       go true w = does w
 
   -- ---- what there is to print
-  module _ {d d' : Bytes} {end : ℕ} where
-    pub prints_refusal : 15 < n → Wrote (refusal n) 0 d d' end → Prints t d u d' 0 end
+  module _ {out : MutBor Bytes} {x y : Text} {end : ℕ} (b : Begun out 0 x) where
+    pub prints_refusal : 15 < n → Put (refusal n) x y → end ≡ y.at → Prints t out.now u y.out.now 0 end
     unfolding refusal salvage_text table_printed
-    prints_refusal h w =
+    prints_refusal h w at =
         let o = over_15 h in
         let s : refusal n ≡ salvage_text t = rw (o.number_is, o.not_whole) in
         record {
-          left_is = o.same_table ∙ ap (λ (x : Salvaged). x.table) (by_length t (zeros 15) o.not_whole);
+          left_is = o.same_table ∙ ap (λ (z : Salvaged). z.table) (by_length t (zeros 15) o.not_whole);
           table_printed_lem = rw o.not_whole;
           table_ends = rw o.not_whole;
-          written_is = w.written ∙ over_start (refusal n) d ∙ ap (λ (x : Bytes). over x d) s;
-          text_ends = w.ends ∙ zero-add (length (refusal n)) ∙ ap length s;
+          written_is = text_is b w ∙ ap (λ (z : Bytes). over z out.now) s;
+          text_ends = at ∙ text_ends b w ∙ ap length s;
         }
 
-    pub prints_lines : n ≤ 15 → length u ≡ length t → {b : Bytes} {next : ℕ} → Wrote (lines_of (take (slot_count u) p)) 0 d b next → Wrote (cleared_text n) next b d' end → Prints t d u d' (length u) end
+    pub prints_lines : n ≤ 15 → length u ≡ length t → {z : Text} → Put (lines_of (take (slot_count u) p)) x z → Put (cleared_text n) z y → end ≡ y.at
+        → Prints t out.now u y.out.now (length u) end
     unfolding lines_of cleared_text salvage_text table_printed report_of
-    prints_lines h k w v =
+    prints_lines h k w v at =
         let o = up_to_15 h in
         let s : lines_of (take (slot_count t) p) ++ cleared_text n ≡ salvage_text t = rw (o.is_whole, o.report_is, lines_are 0 (findings_of t), o.number_is) in
-        let all = wrote_then (rw k at w) v in
+        let all = put_then (rw k at w) v in
         record {
-          left_is = o.left_is ∙ sym (ap (λ (x : Salvaged). x.table) (not_refused t o.is_whole (zeros 15) (rw (length_zeros 15) (at_most_15 t o.is_whole))));
+          left_is = o.left_is ∙ sym (ap (λ (z : Salvaged). z.table) (not_refused t o.is_whole (zeros 15) (rw (length_zeros 15) (at_most_15 t o.is_whole))));
           table_printed_lem = rw o.is_whole (take_all (length u) u (omega arith) ∙ o.left_is);
           table_ends = rw o.is_whole (ap length o.left_is);
-          written_is = all.written ∙ over_start (lines_of (take (slot_count t) p) ++ cleared_text n) d ∙ ap (λ (x : Bytes). over x d) s;
-          text_ends = all.ends ∙ zero-add (length (lines_of (take (slot_count t) p) ++ cleared_text n)) ∙ ap length s;
+          written_is = text_is b all ∙ ap (λ (z : Bytes). over z out.now) s;
+          text_ends = at ∙ text_ends b all ∙ ap length s;
         }
+
+-- a fault has no number that is one of slots
+pub fault_over : (f : Fault) → 15 < fault_number f
+fault_over ReplyBufferShort = omega arith
+fault_over TableLength = omega arith
+fault_over TableNotWellFormed = omega arith
+fault_over NoFrame = omega arith
+fault_over StartOutside = omega arith
+fault_over TallyDiffers = omega arith
+fault_over ReportBufferShort = omega arith
+fault_over TotalOutside = omega arith
+fault_over WriterBufferShort = omega arith
+fault_over WriterFields = omega arith
+fault_over NoReply = omega arith
 
 -- ---- what there is to print ends within what was lent
 module _ {t d u d' : Bytes} {table_end textEnd : ℕ} (p : Prints t d u d' table_end textEnd) where

@@ -4,6 +4,7 @@
 ghost use Rattle.reports.specs.Printing.{Prints};
 
 use profile::sizes::{MOST_SLOTS, SLOT_BYTES};
+use texts::Text;
 
 mod lines; // lines.rt: the line of a slot, those of all slots, and the line of the number
 
@@ -12,7 +13,7 @@ mod lines; // lines.rt: the line of a slot, those of all slots, and the line of 
 pub const REPORT_ROOM: usize = 12 * MOST_SLOTS + 11;
 
 // How many bytes there are to print: of the table, and of the text.
-#[derive(Drop)]
+#[derive(Clone, Copy, PartialEq, Eq)]
 pub struct Printed {
     pub table: usize,
     pub text: usize,
@@ -23,18 +24,22 @@ pub fn salvage_in_words(table: &mut [u8], text: &mut [u8; REPORT_ROOM]) -> Print
     ensures { Prints table.old text.old table.new text.new result.table result.text }
 {
     let mut report = [0u8; MOST_SLOTS];
-    let number = salvage::salvage(table, &mut report) as usize;
-    if MOST_SLOTS < number {
-        let refused = texts::put_refusal(text, number);
-        return Printed {
-            table: 0,
-            text: refused,
-        };
-    }
-    let next = lines::put_lines(text, &report, table.len() / SLOT_BYTES);
-    let end = lines::put_cleared(text, next, number);
-    Printed {
-        table: table.len(),
-        text: end,
+    let mut words = Text::new(text, 0);
+    match salvage::salvage(table, &mut report) {
+        Err(fault) => {
+            words.refused(usize::from(fault.number()));
+            Printed {
+                table: 0,
+                text: words.end(),
+            }
+        }
+        Ok(cleared) => {
+            lines::put_lines(&mut words, &report[..table.len() / SLOT_BYTES]);
+            lines::put_cleared(&mut words, usize::from(cleared));
+            Printed {
+                table: table.len(),
+                text: words.end(),
+            }
+        }
     }
 }

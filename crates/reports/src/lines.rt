@@ -1,55 +1,55 @@
 // The lines of a report (PROFILE 2.11): for each slot its index and what was found of it, and the number of slots cleared.
-ghost use Rattle.std.specs.Prelude.{◌+◌, ◌*◌, ◌<◌, ◌≤◌, length, take};
+ghost use Rattle.std.specs.Prelude.{◌+◌, ◌*◌, ◌<◌, ◌≤◌, length};
 ghost use Rattle.profile.specs.Sizes.{most_slots};
-ghost use Rattle.texts.specs.Written.{Wrote};
+ghost use Rattle.texts.specs.Put.{Put, Room};
 ghost use Rattle.reports.specs.Printing.{word_of, line_of, lines_of, cleared_text};
 
-use profile::finding::{DAMAGED, KEPT};
-use texts::{put_number, put_word};
+use codes::finding::Finding;
+use texts::Text;
 
-// What was found of a slot, as its word.
-fn put_finding(out: &mut [u8], at: usize, found: u8) -> usize
-    requires { at + 8 ≤ length out.old }
-    ensures { Wrote (word_of found) at out.old out.new result }
+// The bytes of a report, as patterns.
+const KEPT: u8 = Finding::Kept as u8;
+
+const DAMAGED: u8 = Finding::Damaged as u8;
+
+// What was found of a slot, as its word. It is a byte, since the report that is lent from C is bytes (`cavernlull_salvage`).
+fn put_finding(text: &mut Text, found: u8)
+    requires { Room 8 text.old }
+    ensures { Put (word_of found) text.old text.new }
 {
-    if found == KEPT {
-        return put_word(out, at, b"kept");
+    match found {
+        KEPT => text.word(b"kept"),
+        DAMAGED => text.word(b"damaged"),
+        _ => text.word(b"repeated"),
     }
-    if found == DAMAGED {
-        return put_word(out, at, b"damaged");
-    }
-    put_word(out, at, b"repeated")
 }
 
 // One slot's line, of 12 bytes at the most.
-fn put_line(out: &mut [u8], at: usize, i: usize, found: u8) -> usize
-    requires { (i < 100) × (at + 12 ≤ length out.old) }
-    ensures { Wrote (line_of i found) at out.old out.new result }
+fn put_line(text: &mut Text, i: usize, found: u8)
+    requires { (i < 100) × Room 12 text.old }
+    ensures { Put (line_of i found) text.old text.new }
 {
-    let after_index = put_number(out, at, i);
-    let after_space = put_word(out, after_index, b" ");
-    let after_word = put_finding(out, after_space, found);
-    put_word(out, after_word, b"\n")
+    text.number(i);
+    text.word(b" ");
+    put_finding(text, found);
+    text.word(b"\n");
 }
 
-// The lines of n slots, at the start of the buffer. The first has the index 0.
-pub(crate) fn put_lines(out: &mut [u8], report: &[u8], n: usize) -> usize
-    requires { (n ≤ most_slots) × (n ≤ length report.now) × (12 * most_slots ≤ length out.old) }
-    ensures { Wrote (lines_of (take n report.now)) 0 out.old out.new result × (result ≤ 12 * n) }
+// The lines of the slots in a report. The first has the index 0.
+pub(crate) fn put_lines(text: &mut Text, report: &[u8])
+    requires { (length report.now ≤ most_slots) × Room (12 * most_slots) text.old }
+    ensures put { Put (lines_of report.now) text.old text.new }
+    ensures short { text.new.at ≤ text.old.at + 12 * length report.now }
 {
-    let mut next = 0;
-    let mut i = 0;
-    while i < n {
-        next = put_line(out, next, i, report[i]);
-        i += 1;
+    for (i, &found) in report.iter().enumerate() {
+        put_line(text, i, found);
     }
-    next
 }
 
 // The last line, of 11 bytes at the most.
-pub(crate) fn put_cleared(out: &mut [u8], at: usize, n: usize) -> usize
-    requires { (n < 100) × (at + 11 ≤ length out.old) }
-    ensures { Wrote (cleared_text n) at out.old out.new result }
+pub(crate) fn put_cleared(text: &mut Text, n: usize)
+    requires { (n < 100) × Room 11 text.old }
+    ensures { Put (cleared_text n) text.old text.new }
 {
-    texts::put_numbered(out, at, b"cleared ", n)
+    text.numbered(b"cleared ", n);
 }

@@ -1,18 +1,23 @@
 -- `listing::list` meets its contract: refused, or the header and the lines. Assumes nothing.
-use mathlib.Core.Path.{ap}
-use mathlib.Core.Bool.{not}
+use Prim.Native.Nat.{ℕ}
+use mathlib.Core.Path.{◌≡◌, ap, ◌∙◌}
 use native.Mathlib.Omega.{arith}
-use Rattle.listing.proofs.Whole.{listable, listed_102, listed_103, listed_lines}
+use lib.ListN.{length}
+use Rattle.codes.specs.Codes.{fault_number}
+use Rattle.texts.proofs.Writing.{put_then, wrote_length}
+use Rattle.listing.proofs.Whole.{refused_is, listed_is, listed}
 use Rattle.listing.proofs.list.Goals as goal
 
-pub returns-then-not-whole_slots : goal.returns-then-not-whole_slots
-returns-then-not-whole_slots c = listed_102 c.args.table.now c.whole_slots.ensures (ap not c.if-not-whole_slots.true) c.put_refusal.ensures
-
-pub returns-then-not-well_table : goal.returns-then-not-well_table
-returns-then-not-well_table c = listed_103 c.args.table.now c.whole_slots.ensures (ap not c.if-not-whole_slots.false) c.well_table.ensures (ap not c.if-not-well_table.true) c.put_refusal-then-not-well_table.ensures
+pub returns-in-Err : goal.returns-in-Err
+returns-in-Err c =
+    let e : c.from.result ≡ fault_number c.in-Err.fault = c.from.ensures ∙ c.number.ensures in
+    listed c.args.table.now (refused_is c.args.table.now c.in-Err.fault c.in-Err.ensures) c.new-text.ensures (rw e at c.refused.ensures) c.end.ensures
 
 pub put_lines-requires : goal.put_lines-requires
-put_lines-requires c = ((listable c.whole_slots.ensures (ap not c.if-not-whole_slots.false) c.well_table.ensures (ap not c.if-not-well_table.false)), omega arith)
+put_lines-requires c =
+    let b = c.new-text.ensures in
+    let w = c.word.ensures.wrote in
+    (c.in_default.ensures, omega (arith, b.begins, ap (length {A = ℕ}) b.as_lent, w.ends, wrote_length w))
 
 pub returns : goal.returns
-returns c = listed_lines _ (listable c.whole_slots.ensures (ap not c.if-not-whole_slots.false) c.well_table.ensures (ap not c.if-not-well_table.false)) c.put_word-at.ensures c.put_lines.ensures
+returns c = listed c.args.table.now (listed_is c.args.table.now c.in_default.ensures) c.new-text.ensures (put_then c.word.ensures c.put_lines.ensures) c.end-2.ensures

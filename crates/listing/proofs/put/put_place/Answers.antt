@@ -4,16 +4,16 @@ use Rattle.listing.proofs.put.put_place.Goals as goal
 
 pub returns-in-Empty : goal.returns-in-Empty
 unfolding placed
-returns-in-Empty c = rw c.in-Empty.is c.put_word.ensures
+returns-in-Empty c = rw c.in-Empty.is c.word.ensures
 
 pub returns-in-Reserved : goal.returns-in-Reserved
 unfolding placed
-returns-in-Reserved c = rw c.in-Reserved.is c.put_word-in-Reserved.ensures
+returns-in-Reserved c = rw c.in-Reserved.is c.word-in-Reserved.ensures
 
 pub returns-in-Enabled : goal.returns-in-Enabled
 unfolding placed
-returns-in-Enabled c = rw c.in-Enabled.is c.put_word-in-Enabled.ensures
+returns-in-Enabled c = rw c.in-Enabled.is c.word-in-Enabled.ensures
 
 pub returns-in-Disabled : goal.returns-in-Disabled
 unfolding placed
-returns-in-Disabled c = rw c.in-Disabled.is c.put_word-in-Disabled.ensures
+returns-in-Disabled c = rw c.in-Disabled.is c.word-in-Disabled.ensures

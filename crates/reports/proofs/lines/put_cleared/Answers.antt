@@ -4,8 +4,8 @@ use Rattle.texts.proofs.Digits.{number_few}
 use Rattle.reports.proofs.FindingLines.{is_cleared}
 use Rattle.reports.proofs.lines.put_cleared.Goals as goal
 
-pub put_numbered-requires : goal.put_numbered-requires
-put_numbered-requires c = (omega arith, omega (arith, number_few 1 _ c.requires.0))
+pub numbered-requires : goal.numbered-requires
+numbered-requires c = (omega arith, omega (arith, number_few 1 _ c.requires.0))
 
 pub returns : goal.returns
-returns c = rw (is_cleared c.args.n) at c.put_numbered.ensures
+returns c = rw (is_cleared c.args.n) at c.numbered.ensures

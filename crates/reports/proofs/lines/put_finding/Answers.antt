@@ -1,12 +1,13 @@
 -- `reports::lines::put_finding` meets its contract, byte by byte. Assumes nothing.
+use native.Mathlib.Omega.{arith}
 use Rattle.reports.proofs.FindingLines.{is_kept, is_damaged, is_repeated}
 use Rattle.reports.proofs.lines.put_finding.Goals as goal
 
-pub returns-then-found-eq-KEPT : goal.returns-then-found-eq-KEPT
-returns-then-found-eq-KEPT c = is_kept c.if-found-eq-KEPT.true c.put_word.ensures
+pub returns-in-0 : goal.returns-in-0
+returns-in-0 c = is_kept c.in-0.is c.word.ensures
 
-pub returns-then-found-eq-DAMAGED : goal.returns-then-found-eq-DAMAGED
-returns-then-found-eq-DAMAGED c = is_damaged c.if-found-eq-DAMAGED.true c.put_word-then-found-eq-DAMAGED.ensures
+pub returns-in-1 : goal.returns-in-1
+returns-in-1 c = is_damaged c.in-1.is c.word-in-1.ensures
 
-pub returns : goal.returns
-returns c = is_repeated _ c.if-found-eq-KEPT.false c.if-found-eq-DAMAGED.false c.put_word-2.ensures
+pub returns-in_default : goal.returns-in_default
+returns-in_default c = is_repeated c.args.found (λ z. omega (arith, z)) (λ z. omega (arith, z)) c.word-in_default.ensures
