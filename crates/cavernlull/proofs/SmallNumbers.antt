@@ -1,6 +1,6 @@
 -- Whatever frame is read, each number told of it has 16 bits. Assumes nothing.
 use Prim.Native.Nat.{◌+◌, ◌-◌, ◌*◌, ◌/◌, ◌%◌, ◌<◌}
-use mathlib.Core.Path.{◌≡◌, refl, ◌∙◌}
+use mathlib.Core.Path.{◌≡◌, refl, sym, subst, ◌∙◌}
 use mathlib.Core.Option.{Option, none, some}
 use mathlib.Core.Bool.{Bool, true, ◌&&◌, not}
 use native.Mathlib.Omega.{arith}
@@ -9,16 +9,20 @@ use lib.ListN.{length}
 use Rattle.profile.specs.Bytes.{Bytes, byte, word}
 use Rattle.profile.specs.Sizes.{most_slots, most_payload, handle_size, most_hashes}
 use Rattle.profile.specs.Slot.{count_holds}
-use Rattle.profile.specs.Frame.{Kind, setup_kind, install_kind, retrieve_kind, rek_kind, enable_kind, remove_kind, cancel_kind, list_kind, info_kind, kind_of, is_status, is_frame, version_holds, kind_number, body, kept_in, status_in}
+use Rattle.profile.specs.Frame.{Kind, setup_kind, install_kind, retrieve_kind, rek_kind, enable_kind, remove_kind, cancel_kind, list_kind, info_kind, kind_of, is_frame, version_holds, kind_number, body, kept_in, status_in}
 use Rattle.profile.specs.Device.{none?, bit_allowed, shaped}
 use Rattle.profile.proofs.Logic.{and_parts, leb_le, if_both, if_cases}
 use Rattle.reply_reader.specs.declared.answer.Told.{Told}
-use Rattle.reply_reader.specs.Told.{keyless, payload_from, right_in, key_in, list_in, info_in, told_shaped, told_success, told, Reads}
+use Rattle.reply_reader.specs.Told.{keyless, payload_from, right_in, key_in, list_in, info_in, told_shaped, told_success, refusal_of, told_failed, told, Reads}
+use Rattle.std.specs.Prelude.{Result, Ok, Err}
+use Rattle.codes.specs.declared.fault.Fault.{Fault}
+use Rattle.codes.specs.declared.refusal.Refusal.{Refusal}
 use Rattle.reply_reader.proofs.Shapes.{right_room, right_tests, list_room, list_tests, info_room, info_tests}
 use Rattle.cavernlull.specs.Numbers.{Small}
 
-abbrev SmallTold : Told → Type 0
-SmallTold t = Small t.answer
+abbrev SmallTold : Result Told Fault → Type 0
+SmallTold (Ok t) = Small t.answer
+SmallTold (Err e) = Unit {0}
 
 module _ (f : Bytes) where
   right_small : shaped retrieve_kind f ≡ true → (byte 22 f / 16 < 65536) × (23 < 65536) × (payload_from f < 65536) × (length f - payload_from f < 65536)
@@ -45,7 +49,7 @@ module _ (f : Bytes) where
       let short = leb_le (length f) (6 + most_payload) (and_parts (ltb 6 (length f)) (leb (length f) (6 + most_payload)) all.0).1 in
       (omega arith, omega (arith, short))
 
-  of_kind : (k : Kind) → shaped k f ≡ true → SmallTold (told_shaped k f)
+  of_kind : (k : Kind) → shaped k f ≡ true → SmallTold (Ok (told_shaped k f))
   unfolding keyless right_in key_in list_in info_in
   of_kind setup_kind e = tt
   of_kind install_kind e = tt
@@ -62,14 +66,17 @@ module _ (f : Bytes) where
   of_success none = tt
   of_success (some k) = if_cases SmallTold (shaped k f) (of_kind k) (λ _. tt)
 
+  of_failed : (r : Option Refusal) → SmallTold (told_failed (kind_number f) r f)
+  unfolding keyless
+  of_failed none = tt
+  of_failed (some r) = if_both SmallTold (none? (body f)) tt tt
+
   told_small : SmallTold (told f)
-  unfolding told keyless
+  unfolding told
   told_small =
       if_both SmallTold (not (is_frame f && version_holds f)) tt
       (if_both SmallTold (not (bit_allowed f)) tt
-      (if_both SmallTold (not (is_status (status_in f))) tt
-      (if_both SmallTold (eqb (status_in f) 0) (of_success (kind_of (kind_number f)))
-      (if_both SmallTold (none? (body f)) tt tt))))
+      (if_both SmallTold (eqb (status_in f) 0) (of_success (kind_of (kind_number f))) (of_failed (refusal_of (status_in f)))))
 
-  pub reads_small : (t : Told) → Reads f t → Small t.answer
-  reads_small t r = rw r.exact told_small
+  pub reads_small : (t : Told) → Reads f (Ok t) → Small t.answer
+  reads_small t r = subst SmallTold (sym r.exact) told_small

@@ -4,11 +4,11 @@
 #![tactic(auto)]
 
 use crate::numbers::REPLY_NUMBERS;
+use codes::fault::{self, DONE, Fault};
 use listing::LISTING_ROOM;
 use profile::Tally;
-use profile::number::{DONE, TOTAL_OUTSIDE};
 use profile::sizes::{HANDLE_BYTES, KEY_BYTES};
-use request_fields::Plain;
+use request_fields::Fields;
 
 mod numbers; // numbers.rt: a reply as eleven numbers
 
@@ -41,9 +41,13 @@ pub extern "C" fn cavernlull_call(
 ) -> u16
     ensures { outcome result reply.new table.new tally.new ≡ agent_of table.old (call_of tally.old start frame.now reply.old) }
 {
-    let done = agent::call(table, *tally, start, frame, reply);
-    *tally = done.tally;
-    done.number
+    match agent::call(table, *tally, start, frame, reply) {
+        Ok(called) => {
+            *tally = called.tally;
+            DONE
+        }
+        Err(fault) => fault.number(),
+    }
 }
 
 // Whether there is room for one more return in the totals (PROFILE 4.5). It is tested before the tally is copied, and apart from the call, so that
@@ -71,11 +75,15 @@ pub extern "C" fn cavernlull_call_totalling(
     ensures { totalled (outcome result reply.new table.new tally.new) total.new returns.new change.new ≡ totalling table.old (call_of tally.old start frame.now reply.old) (totals_with total.old returns.old) change.old }
 {
     if !has_room(total, returns) {
-        return TOTAL_OUTSIDE;
+        return Fault::TotalOutside.number();
     }
-    let totalled = totals::counted_call(table, *tally, start, frame, reply, total, returns, change);
-    *tally = totalled.tally;
-    totalled.number
+    match totals::counted_call(table, *tally, start, frame, reply, total, returns, change) {
+        Ok(after) => {
+            *tally = after;
+            DONE
+        }
+        Err(fault) => fault.number(),
+    }
 }
 
 // Works out the tally of a table (PROFILE 2.8), whatever numbers `tally` has. With 102 and 103 nothing is changed.
@@ -83,9 +91,13 @@ pub extern "C" fn cavernlull_call_totalling(
 pub extern "C" fn cavernlull_tally(table: &[u8], tally: &mut Tally) -> u16
     ensures { tallied result tally.new ≡ work_out table.now tally.old }
 {
-    let worked = tallies::work_out(table, *tally);
-    *tally = worked.tally;
-    worked.number
+    match tallies::work_out(table) {
+        Ok(worked) => {
+            *tally = worked;
+            DONE
+        }
+        Err(fault) => fault.number(),
+    }
 }
 
 // The request writer of a device (PROFILE 6.2): takes a kind and the fields of all kinds, of which those that the kind lacks must be zero or
@@ -106,16 +118,18 @@ pub extern "C" fn cavernlull_write_request(
 ) -> u16
     ensures { wrote result out.new ≡ write kind (fields_with handle.now new.now key.now room count kept limit hashes.now payload.now) out.old }
 {
-    let plain = Plain {
+    let fields = Fields {
         handle: *handle,
         new: *new,
         key: *key,
-        room: room,
-        count: count,
-        kept: kept,
-        limit: limit,
+        room,
+        count,
+        kept,
+        limit,
+        hashes,
+        payload,
     };
-    request_writer::writer::write_request(kind, plain, hashes, payload, out)
+    fault::number_of(request_writer::writer::write_request(kind, &fields, out))
 }
 
 // The reply reader of a device (PROFILE 6.3). With 0 the key and all eleven numbers are written: kind, status, the count's number, number of
@@ -129,16 +143,17 @@ pub extern "C" fn cavernlull_read_reply(
 ) -> u16
     ensures { ReadsInto frame.now key.old fields.old (left result key.new fields.new) }
 {
-    let told = reply_reader::reader::read_reply(frame);
-    let answer = told.answer;
-    let number = reply_reader::answer::number_of(answer);
-    if number == DONE {
-        let k = told.key;
-        let n = crate::numbers::numbers_of(answer);
-        *key = k;
-        *fields = n;
+    match reply_reader::reader::read_reply(frame) {
+        Ok(told) => {
+            // Locals, since an array of a field is not stored straight into what is lent.
+            let told_key = told.key;
+            let told_fields = crate::numbers::numbers_of(told.answer);
+            *key = told_key;
+            *fields = told_fields;
+            DONE
+        }
+        Err(fault) => fault.number(),
     }
-    number
 }
 
 // Turns a table from before counts had their bit (PROFILE 2.7). With 0 each slot with a count has the bit, and no other byte is changed. With
@@ -147,7 +162,7 @@ pub extern "C" fn cavernlull_read_reply(
 pub extern "C" fn cavernlull_turn(table: &mut [u8]) -> u16
     ensures { turned result table.new ≡ turn_of table.old }
 {
-    turning::turn(table)
+    fault::number_of(turning::turn(table))
 }
 
 // Salvages a damaged table (PROFILE 2.10): gives how many slots were cleared, and byte i of `report` says what was found of slot i. Every other
@@ -156,7 +171,7 @@ pub extern "C" fn cavernlull_turn(table: &mut [u8]) -> u16
 pub extern "C" fn cavernlull_salvage(table: &mut [u8], report: &mut [u8]) -> u16
     ensures { salvaged result table.new report.new ≡ salvage_of table.old report.old }
 {
-    salvage::salvage(table, report)
+    salvage::salvage(table, report).unwrap_or_else(|fault| fault.number())
 }
 
 // The listing of a table (PROFILE 7.1 and 7.2) at the start of `out`, whose other bytes stay. It gives the listing's length, and refuses

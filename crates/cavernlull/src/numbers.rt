@@ -2,9 +2,13 @@
 ghost use Rattle.std.specs.Prelude.{◌≡◌, ◌<◌};
 ghost use Rattle.cavernlull.specs.Numbers.{numbers, Small, of_status, of_right, of_handles, of_counted};
 
+use codes::kind::Kind;
+use codes::refusal::SUCCESS;
 use profile::Count;
-use profile::status::SUCCESS;
 use reply_reader::answer::Answer;
+
+// Offsets and lengths of a reply have 16 bits: `as` is proved to lose nothing of them, and a TryFrom would bring an Err that cannot come.
+// The rows are written out, each in the order that C reads: a struct of eleven names would only say the order once more.
 
 // How many numbers tell a reply.
 pub const REPLY_NUMBERS: usize = 11;
@@ -13,7 +17,19 @@ pub const REPLY_NUMBERS: usize = 11;
 fn of_status(kind: u8, status: u8) -> [u16; REPLY_NUMBERS]
     ensures { result ≡ of_status kind status }
 {
-    [kind as u16, status as u16, 0, 0, 0, 0, 0, 0, 0, 0, 0]
+    [
+        u16::from(kind),
+        u16::from(status),
+        0,
+        0,
+        0,
+        0,
+        0,
+        0,
+        0,
+        0,
+        0,
+    ]
 }
 
 // A right, of kind 3. A count is its number, and last whether one is kept.
@@ -40,7 +56,7 @@ fn of_right(
         0,
         0,
         0,
-        kept as u16,
+        u16::from(kept),
     ]
 }
 
@@ -57,7 +73,7 @@ fn of_handles(more: bool, handles: usize, at: usize) -> [u16; REPLY_NUMBERS]
         0,
         0,
         0,
-        more as u16,
+        u16::from(more),
         handles as u16,
         at as u16,
         0,
@@ -82,7 +98,7 @@ fn of_counted(count: Count, at: usize, size: usize) -> [u16; REPLY_NUMBERS]
         0,
         0,
         0,
-        kept as u16,
+        u16::from(kept),
     ]
 }
 
@@ -92,9 +108,8 @@ pub fn numbers_of(answer: Answer) -> [u16; REPLY_NUMBERS]
     ensures { result ≡ numbers answer }
 {
     match answer {
-        Answer::Malformed => of_status(0, 0),
-        Answer::Failed { kind, status } => of_status(kind, status),
-        Answer::Nothing { kind } => of_status(kind, SUCCESS),
+        Answer::Failed { kind, refusal } => of_status(kind, refusal.status()),
+        Answer::Nothing { kind } => of_status(kind.number(), SUCCESS),
         Answer::Right {
             count,
             hashes,
@@ -102,7 +117,7 @@ pub fn numbers_of(answer: Answer) -> [u16; REPLY_NUMBERS]
             payload_at,
             payload_length,
         } => of_right(count, hashes, hashes_at, payload_at, payload_length),
-        Answer::Key => of_status(4, SUCCESS),
+        Answer::Key => of_status(Kind::Rek.number(), SUCCESS),
         Answer::Handles {
             more,
             handles,

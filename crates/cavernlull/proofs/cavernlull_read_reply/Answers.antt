@@ -1,14 +1,16 @@
 -- `cavernlull::cavernlull_read_reply` meets its contract: what is told of the frame is left, or nothing is changed. Assumes nothing.
+use mathlib.Core.Path.{ap}
+use Prim.Native.Nat.{ℕ}
 use Rattle.cavernlull.proofs.SmallNumbers.{reads_small}
-use Rattle.cavernlull.proofs.ReadInto.{read_into, read_none}
+use Rattle.cavernlull.proofs.ReadInto.{reads_into}
+use Rattle.cavernlull.specs.Numbers.{left}
 use Rattle.cavernlull.proofs.cavernlull_read_reply.Goals as goal
 
-pub numbers_of-n-requires : goal.numbers_of-n-requires
-numbers_of-n-requires c = reads_small c.args.frame.now _ c.read_reply-told.ensures
+pub numbers_of-told_fields-requires : goal.numbers_of-told_fields-requires
+numbers_of-told_fields-requires c = reads_small c.args.frame.now _ c.in-Ok.ensures
 
-pub returns-then-number-eq-DONE : goal.returns-then-number-eq-DONE
-returns-then-number-eq-DONE c = read_into c.args.frame.now c.args.key.now c.args.fields.now _ c.read_reply-told.ensures _ c.number_of-number.ensures c.if-number-eq-DONE.true _
-    c.numbers_of-n.ensures
+pub returns-in-Ok : goal.returns-in-Ok
+returns-in-Ok c = reads_into c.args.frame.now c.args.key.now c.args.fields.now _ _ c.in-Ok.ensures (ap (left 0 c.in-Ok.told.key) c.numbers_of-told_fields.ensures)
 
-pub returns-else-number-eq-DONE : goal.returns-else-number-eq-DONE
-returns-else-number-eq-DONE c = read_none c.args.frame.now c.args.key.now c.args.fields.now _ c.read_reply-told.ensures _ c.number_of-number.ensures c.if-number-eq-DONE.false
+pub returns-in-Err : goal.returns-in-Err
+returns-in-Err c = reads_into c.args.frame.now c.args.key.now c.args.fields.now _ _ c.in-Err.ensures (ap (λ (n : ℕ). left n c.args.key.now c.args.fields.now) c.number.ensures)
