@@ -6,8 +6,9 @@ ghost use Rattle.codes.specs.Codes.{kind_meant};
 ghost use Rattle.profile.specs.Bytes.{from1to};
 ghost use Rattle.profile.specs.Sizes.{most_payload};
 ghost use Rattle.profile.specs.Slot.{count_holds};
+ghost use Rattle.profile.specs.Frame.{kind_of};
 ghost use Rattle.profile.specs.Device.{kind_holds, whole_hashes as hashes_whole};
-ghost use Rattle.request_fields.specs.Given.{fields_of};
+ghost use Rattle.request_fields.specs.Given.{fields_of, kind_allows};
 
 use codes::kind::Kind;
 use profile::sizes::{HANDLE_BYTES, HASH_BYTES, KEY_BYTES, MOST_HASHES, MOST_PAYLOAD};
@@ -51,7 +52,7 @@ impl<'a> Fields<'a> {
 
     // Every field that the kind lacks must be empty or zero; kinds 2 and 5 must say a count, and kind 2 must have a hash, by which its
     // course is found, and a payload that fits.
-    pub fn kind_allows(&self, kind: Kind) -> bool
+    pub fn fit(&self, kind: Kind) -> bool
         ensures { result ≡ kind_holds (kind_meant kind) (fields_of self.now) }
     {
         let no_handle = zeros::all_zero(&self.handle);
@@ -75,6 +76,16 @@ impl<'a> Fields<'a> {
             Kind::Remove | Kind::Cancel | Kind::Info => {
                 no_new & no_key & no_room & no_count & no_limit & no_hashes & no_payload
             }
+        }
+    }
+
+    // Whether a kind, by its number, has these fields: the number must be one of the nine, and the fields must fit.
+    pub fn kind_allows(&self, kind: u8) -> bool
+        ensures { result ≡ kind_allows (kind_of kind) (fields_of self.now) }
+    {
+        match Kind::try_from(kind) {
+            Ok(known) => self.fit(known),
+            Err(_) => false,
         }
     }
 }

@@ -49,8 +49,9 @@ fn write_kind(kind: Kind, f: &Fields, out: &mut [u8]) -> Result<(), Fault>
 pub fn write_request(kind: u8, f: &Fields, out: &mut [u8]) -> Result<(), Fault>
     ensures { wrote (number_in result) out.new ≡ write kind (fields_of f.now) out.old }
 {
+    let allowed = f.whole_hashes() & f.kind_allows(kind);
     match Kind::try_from(kind) {
-        Ok(kind) if f.whole_hashes() & f.kind_allows(kind) => write_kind(kind, f, out),
+        Ok(known) if allowed => write_kind(known, f, out),
         _ => Err(Fault::WriterFields),
     }
 }
