@@ -71,7 +71,7 @@ pub fn lend(
             Change::Moved(Place::Enabled, length, Place::Disabled, length)
         }
         Err(refusal) => {
-            reply_writer::writer::reply_status(reply, lending.kind().number(), Err(refusal));
+            reply_writer::writer::reply_served(reply, lending.kind().number(), Err(refusal));
             Change::Same
         }
     }

@@ -47,7 +47,7 @@ pub fn info(table: &[u8], reply: &mut [u8], h: [u8; HANDLE_BYTES])
             tables::part::slot_at(table, record.at),
         ),
         Err(refusal) => {
-            reply_writer::writer::reply_status(reply, Kind::Info.number(), Err(refusal))
+            reply_writer::writer::reply_served(reply, Kind::Info.number(), Err(refusal))
         }
     }
 }

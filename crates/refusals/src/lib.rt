@@ -31,6 +31,6 @@ pub fn refuse(frame: &[u8], reply: &mut [u8], why: Why) -> Result<(), Fault>
 {
     let refusal = refusal_for(why)?;
     let kind = bits::fields::frame_kind(frame[0]);
-    reply_writer::writer::reply_status(reply, kind, Err(refusal));
+    reply_writer::writer::reply_served(reply, kind, Err(refusal));
     Ok(())
 }

@@ -33,11 +33,11 @@ pub fn clear<F: Fn(Place) -> bool>(
         Ok(record) => {
             let length = words::word_at(tables::part::slot_at(table, record.at), LENGTH_AT);
             changes::clear_slot(table, record.at);
-            reply_writer::writer::reply_status(reply, kind, Ok(()));
+            reply_writer::writer::reply_served(reply, kind, Ok(()));
             Change::Moved(record.place, length, Place::Empty, 0)
         }
         Err(refusal) => {
-            reply_writer::writer::reply_status(reply, kind, Err(refusal));
+            reply_writer::writer::reply_served(reply, kind, Err(refusal));
             Change::Same
         }
     }

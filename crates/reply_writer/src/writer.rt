@@ -41,12 +41,20 @@ fn put_key(reply: &mut [u8], slot: &Slot)
 
 // The kind is a number of five bits, since a request of an unknown kind is answered too; that it fits, and the room in the buffer, stand in clauses, each
 // of which asks no more than its function writes.
-// A reply with an empty body: of every status but 0, and at success of kinds 1, 2 and 5 to 7.
-pub fn reply_status(reply: &mut [u8], kind: u8, served: Result<(), Refusal>)
+// A reply with an empty body, of any status.
+pub fn reply_status(reply: &mut [u8], kind: u8, status: u8)
+    requires { (kind < 32) × (4 ≤ length reply.old) }
+    ensures { reply.new ≡ over (frame kind status []) reply.old }
+{
+    put_head(reply, kind, status, 0);
+}
+
+// The reply of a request that is served or refused, where it has an empty body: at every refusal, and at success of kinds 1, 2 and 5 to 7.
+pub fn reply_served(reply: &mut [u8], kind: u8, served: Result<(), Refusal>)
     requires { (kind < 32) × (4 ≤ length reply.old) }
     ensures { reply.new ≡ over (frame kind (status_in served) []) reply.old }
 {
-    put_head(reply, kind, status_of(served), 0);
+    reply_status(reply, kind, status_of(served));
 }
 
 // Kind 4 at success: the key, from the record's slot.

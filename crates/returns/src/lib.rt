@@ -49,7 +49,7 @@ fn refuse(reply: &mut [u8], refusal: Refusal) -> Change
     requires { 4 ≤ length reply.old }
     ensures { (reply.new ≡ over (frame 5 (code (refusal_meant refusal)) []) reply.old) × (result ≡ Same) }
 {
-    reply_writer::writer::reply_status(reply, Kind::Enable.number(), Err(refusal));
+    reply_writer::writer::reply_served(reply, Kind::Enable.number(), Err(refusal));
     Change::Same
 }
 
@@ -60,7 +60,7 @@ pub fn enable(table: &mut [u8], reply: &mut [u8], h: [u8; HANDLE_BYTES], count: 
 {
     match record_to_enable(table, h, count) {
         Ok(record) => {
-            reply_writer::writer::reply_status(reply, Kind::Enable.number(), Ok(()));
+            reply_writer::writer::reply_served(reply, Kind::Enable.number(), Ok(()));
             let Place::Disabled = record.place else {
                 return Change::Same;
             };

@@ -52,11 +52,11 @@ pub fn install(
         Ok(record) => {
             let room = words::word_at(tables::part::slot_at(table, record.at), LENGTH_AT);
             changes::store_right(table, record.at, h, key, count, hashes, frame, at, size);
-            reply_writer::writer::reply_status(reply, Kind::Install.number(), Ok(()));
+            reply_writer::writer::reply_served(reply, Kind::Install.number(), Ok(()));
             Change::Moved(Place::Reserved, room, Place::Enabled, size as u16)
         }
         Err(refusal) => {
-            reply_writer::writer::reply_status(reply, Kind::Install.number(), Err(refusal));
+            reply_writer::writer::reply_served(reply, Kind::Install.number(), Err(refusal));
             Change::Same
         }
     }

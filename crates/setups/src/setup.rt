@@ -52,11 +52,11 @@ pub fn set_up(
     match slot_to_reserve(table, start, h, n) {
         Ok(i) => {
             changes::store_reservation(table, i, h, n);
-            reply_writer::writer::reply_status(reply, Kind::Setup.number(), Ok(()));
+            reply_writer::writer::reply_served(reply, Kind::Setup.number(), Ok(()));
             Change::Moved(Place::Empty, 0, Place::Reserved, n)
         }
         Err(refusal) => {
-            reply_writer::writer::reply_status(reply, Kind::Setup.number(), Err(refusal));
+            reply_writer::writer::reply_served(reply, Kind::Setup.number(), Err(refusal));
             Change::Same
         }
     }

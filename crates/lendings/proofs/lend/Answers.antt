@@ -41,4 +41,4 @@ returns-in-Ok c =
 pub returns-in-Err : goal.returns-in-Err
 returns-in-Err c =
     let bytes = below_256 c.args.table.now (search rules) in
-    refused_serves _ (lend_refused _ _ _ _ bytes c.requires _ c.slot_to_lend.ensures (lent_by (kind_of c.args.lending)) _ c.in-Err.is) (rw (c.number.ensures.is, c.kind.ensures) at c.reply_status.ensures)
+    refused_serves _ (lend_refused _ _ _ _ bytes c.requires _ c.slot_to_lend.ensures (lent_by (kind_of c.args.lending)) _ c.in-Err.is) (rw (c.number.ensures.is, c.kind.ensures) at c.reply_served.ensures)

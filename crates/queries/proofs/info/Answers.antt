@@ -26,4 +26,4 @@ returns-in-Ok c =
 pub returns-in-Err : goal.returns-in-Err
 returns-in-Err c =
     let d = c.slot_under.ensures.decided lendable (λ q b e. search rules) in
-    info_refused _ _ c.args.h _ (sym d ∙ c.in-Err.is) _ (rw c.number.ensures.is at c.reply_status.ensures)
+    info_refused _ _ c.args.h _ (sym d ∙ c.in-Err.is) _ (rw c.number.ensures.is at c.reply_served.ensures)

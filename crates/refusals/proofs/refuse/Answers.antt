@@ -8,4 +8,4 @@ pub bounds-frame-0 : goal.bounds-frame-0
 bounds-frame-0 c = omega (arith, refused_long _ _ _ c.requires.0 (refusal_read _ _ c.in_ok-refusal.ensures))
 
 pub returns : goal.returns
-returns c = refuses_with _ _ _ _ _ _ (refusal_read _ _ c.in_ok-refusal.ensures) refl (rw c.frame_kind-kind.ensures at c.reply_status.ensures)
+returns c = refuses_with _ _ _ _ _ _ (refusal_read _ _ c.in_ok-refusal.ensures) refl (rw c.frame_kind-kind.ensures at c.reply_served.ensures)

@@ -14,7 +14,7 @@ slot_at-slot-requires c = (installed_there _ _ _ (below_256 c.args.table.now (se
 pub returns-in_default : goal.returns-in_default
 returns-in_default c =
     let bytes = below_256 c.args.table.now (search rules) in
-    kept_serves bytes c.requires (stays _ _ _ bytes c.requires _ _ c.record_to_enable.ensures _ c.in-Ok.is (not_disabled c.in-Ok.record.place (search rules))) (rw c.number.ensures.is at c.reply_status.ensures)
+    kept_serves bytes c.requires (stays _ _ _ bytes c.requires _ _ c.record_to_enable.ensures _ c.in-Ok.is (not_disabled c.in-Ok.record.place (search rules))) (rw c.number.ensures.is at c.reply_served.ensures)
 
 pub give_back-requires : goal.give_back-requires
 give_back-requires c =
@@ -26,7 +26,7 @@ returns-in-Disabled c =
     let bytes = below_256 c.args.table.now (search rules) in
     let w = lent_there _ _ _ bytes c.requires _ _ c.record_to_enable.ensures _ c.in-Ok.is c.in-Disabled.is in
     let there = c.slot_at-slot.ensures.0 ∙ w.lent in
-    done_serves (returned _ _ _ bytes c.requires _ _ c.record_to_enable.ensures _ c.in-Ok.is c.in-Disabled.is) c.give_back.ensures (rw c.number.ensures.is at c.reply_status.ensures)
+    done_serves (returned _ _ _ bytes c.requires _ _ c.record_to_enable.ensures _ c.in-Ok.is c.in-Disabled.is) c.give_back.ensures (rw c.number.ensures.is at c.reply_served.ensures)
     (return_moves w _ (c.word_at-length.ensures ∙ ap length_of there) _ (c.count_of-stored.ensures ∙ ap count_of there) _ c.args.count)
 
 pub returns-in-Err : goal.returns-in-Err

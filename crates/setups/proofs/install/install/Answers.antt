@@ -32,7 +32,7 @@ returns-in-Ok c =
     let sized = length_part (a.at + hash_size * a.hashes) a.size a.frame.now (omega (arith, c.requires.1.inside)) in
     let w = to_fill _ _ _ bytes c.requires.0 a.size _ c.slot_to_fill.ensures _ c.in-Ok.is in
     done_serves (installs _ _ _ bytes c.requires.0 a.size _ c.slot_to_fill.ensures x sized _ c.in-Ok.is) c.store_right.ensures
-    (rw c.number.ensures.is at c.reply_status.ensures)
+    (rw c.number.ensures.is at c.reply_served.ensures)
     (install_moves _ _ _ bytes c.requires.0 a.size _ c.slot_to_fill.ensures x sized _ c.in-Ok.is _ (c.word_at-room.ensures ∙ ap length_of (c.slot_at.ensures.0 ∙ w.lent)))
 
 pub returns-in-Err : goal.returns-in-Err
@@ -41,4 +41,4 @@ returns-in-Err c =
     let x = right_from a.key a.count a.hashes a.size a.frame.now a.at in
     let sized = length_part (a.at + hash_size * a.hashes) a.size a.frame.now (omega (arith, c.requires.1.inside)) in
     refused_serves _ (install_refused _ _ _ (below_256 a.table.now (search rules)) c.requires.0 a.size _ c.slot_to_fill.ensures x sized _ c.in-Err.is)
-    (rw c.number-in-Err.ensures.is at c.reply_status-in-Err.ensures)
+    (rw c.number-in-Err.ensures.is at c.reply_served-in-Err.ensures)

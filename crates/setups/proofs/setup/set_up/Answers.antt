@@ -9,7 +9,7 @@ store_reservation-requires c = free_slot _ _ c.args.start c.requires.1 _ _ c.in-
 pub returns-in-Ok : goal.returns-in-Ok
 returns-in-Ok c =
     let w = c.in-Ok.ensures in
-    done_serves w.answer c.store_reservation.ensures (rw c.number.ensures.is at c.reply_status.ensures) (setup_moves _ _ c.args.start c.requires.1 _ _ w)
+    done_serves w.answer c.store_reservation.ensures (rw c.number.ensures.is at c.reply_served.ensures) (setup_moves _ _ c.args.start c.requires.1 _ _ w)
 
 pub returns-in-Err : goal.returns-in-Err
-returns-in-Err c = refused_serves _ c.in-Err.ensures (rw c.number-in-Err.ensures.is at c.reply_status-in-Err.ensures)
+returns-in-Err c = refused_serves _ c.in-Err.ensures (rw c.number-in-Err.ensures.is at c.reply_served-in-Err.ensures)
