@@ -1,3 +1,4 @@
 pub mod Shapes
 pub mod Meanings
 pub mod ReadBack
+pub mod OneAnswer
